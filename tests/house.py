@@ -45,10 +45,21 @@ def bodies(text):
     for head in FUNCTION.finditer(text):
         indent = len(head[1])
         first = text.count("\n", 0, head.start())
-        opened = next((at for at in range(first, len(lines)) if lines[at] == " " * indent + "{" or lines[at].endswith(" {") and "ensures" not in lines[at] and "requires" not in lines[at]), None)
+        # a body begins on a line of its own behind a contract, else at the end of the line of the result
+        promised = re.compile(r"\s*(?:ensures|requires)\b")
+        opened = None
+        for at in range(first, len(lines)):
+            if lines[at] in (" " * indent + "{", " " * indent + "{}"):
+                opened = at
+                break
+            if lines[at].endswith((" {", ";")) and not any(promised.match(it) for it in lines[first : at + 1]):
+                opened = at if lines[at].endswith(" {") else None
+                break
         if opened is None:
             continue
-        closed = next((at for at in range(opened + 1, len(lines)) if lines[at] == " " * indent + "}"), opened)
+        closed = opened + 1
+        if not lines[opened].endswith("{}"):
+            closed = next((at for at in range(opened + 1, len(lines)) if lines[at] == " " * indent + "}"), opened + 1)
         signature = "\n".join(lines[first : opened + 1])
         yield closed - opened - 1, bool(re.search(r"\(\s*&?(?:'\w+ )?(?:mut )?self\b", signature))
 

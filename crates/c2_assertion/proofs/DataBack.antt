@@ -20,10 +20,13 @@ by_count h many = cond many (Err (TooMany (length h.exclusions))) (Ok h)
 
 -- the hash by the exclusions that are read
 abbrev by_ranges : Option (List ℕ) → List ℕ → Option (List Range) → Result DataHash FieldError
-by_ranges alg hash read = require Form read (λ rs. by_count (record { exclusions = rs; alg = alg; hash = hash }) (ltb most_exclusions (length rs)))
+by_ranges alg hash read =
+    require Form read
+    (λ rs. by_count (record { exclusions = rs; alg = alg; hash = hash }) (ltb most_exclusions (length rs)))
 
 -- all else is read as it was written
-of_parts : (rs : List Range) (alg : Option (List ℕ)) (hash : List ℕ) → data_hash_of (data_hash_item (record { exclusions = rs; alg = alg; hash = hash })) ≡ by_ranges alg hash (each_of range_of (items_of (map range_item rs)))
+of_parts : (rs : List Range) (alg : Option (List ℕ)) (hash : List ℕ)
+    → data_hash_of (data_hash_item (record { exclusions = rs; alg = alg; hash = hash })) ≡ by_ranges alg hash (each_of range_of (items_of (map range_item rs)))
 of_parts rs None hash = refl
 of_parts rs (Some alg) hash = refl
 
@@ -32,11 +35,12 @@ data_is : (h : DataHash) → data_hash_of (data_hash_item h) ≡ by_count h (ltb
 data_is h = of_parts h.exclusions h.alg h.hash ∙ ap (by_ranges h.alg h.hash) (each_back range_of range_item (λ r. refl) h.exclusions)
 
 -- a hash that is read hasn't too many exclusions
-few : (h : DataHash) (many : Bool) → ltb most_exclusions (length h.exclusions) ≡ many → by_count h many ≡ Ok h → length h.exclusions ≤ most_exclusions
+few : (h : DataHash) (many : Bool) → ltb most_exclusions (length h.exclusions) ≡ many → by_count h many ≡ Ok h
+    → length h.exclusions ≤ most_exclusions
 few h true e n = absurd (cc (n))
 few h false e n = ltb-false most_exclusions (length h.exclusions) e
 
--- it is the hash exactly where these are few
+-- a data hash is read as itself exactly where its exclusions are few
 pub data_back : (h : DataHash) → (data_hash_of (data_hash_item h) ≡ Ok h) ↔ (length h.exclusions ≤ most_exclusions)
 data_back h =
     (λ r. few h (ltb most_exclusions (length h.exclusions)) refl (sym (data_is h) ∙ r), λ le. data_is h ∙ ap (by_count h) (le-ltb most_exclusions (length h.exclusions) le))

@@ -8,7 +8,7 @@ use Rattle.c2_spec.specs.Cbor.Fields.{each_of, joined}
 pub all_head : {X : Type 0} (P : X → Type 0) (x : X) (xs : List X) → All P (x ∷ xs) → P x
 all_head P x xs h = h 0 x (omega arith)
 
--- and of the others
+-- what holds of all holds of all behind the first
 pub all_tail : {X : Type 0} (P : X → Type 0) (x : X) (xs : List X) → All P (x ∷ xs) → All P xs
 all_tail P x xs h = λ k d lt. h (suc k) d (omega (arith, lt))
 
@@ -18,6 +18,7 @@ all_cons P x xs p h zero d lt = p
 all_cons P x xs p h (suc k) d lt = h k d (omega (arith, lt))
 
 -- where each value is read of its item, the list of values is read of the list of items
-pub each_back : {A : Type 0} (read : Item → Option A) (write : A → Item) → ((x : A) → read (write x) ≡ Some x) → (xs : List A) → each_of read (items_of (map write xs)) ≡ Some xs
+pub each_back : {A : Type 0} (read : Item → Option A) (write : A → Item) → ((x : A) → read (write x) ≡ Some x)
+    → (xs : List A) → each_of read (items_of (map write xs)) ≡ Some xs
 each_back read write back [] = refl
 each_back read write back (x ∷ xs) = ap₂ joined (back x) (each_back read write back xs)

@@ -41,14 +41,16 @@ keys_differ [] = true
 keys_differ (f ∷ fs) = differs f.0 (pairs_of (map named fs)) && keys_differ fs
 
 -- a map of fields whose keys differ, where the values have it
-fields_plain : (fs : List (List ℕ × Item)) → keys_differ fs ≡ true → AllByRecursion (λ (f : List ℕ × Item). HasPlainKeys f.1) fs → HasPlainKeys (dict (pairs_of (map named fs)))
+fields_plain : (fs : List (List ℕ × Item)) → keys_differ fs ≡ true
+    → AllByRecursion (λ (f : List ℕ × Item). HasPlainKeys f.1) fs → HasPlainKeys (dict (pairs_of (map named fs)))
 fields_plain [] d h = tt
 fields_plain (f ∷ fs) d h =
     let both = and_parts (differs f.0 (pairs_of (map named fs))) (keys_differ fs) d in
     (tt, h.0, differs_from f.0 (pairs_of (map named fs)) both.0, fields_plain fs both.1 h.1)
 
 -- items that each have it
-each_plain : {A : Type 0} (write : A → Item) → ((x : A) → HasPlainKeys (write x)) → (xs : List A) → ItemsHavePlainKeys (items_of (map write xs))
+each_plain : {A : Type 0} (write : A → Item) → ((x : A) → HasPlainKeys (write x)) → (xs : List A)
+    → ItemsHavePlainKeys (items_of (map write xs))
 each_plain write one [] = tt
 each_plain write one (x ∷ xs) = (one x, each_plain write one xs)
 
@@ -58,7 +60,8 @@ unfolding shortest_head
 range_plain r = fields_plain ((codes "start", uint r.start) ∷ (codes "length", uint r.length) ∷ []) refl (tt, (tt, tt))
 
 -- the fields of a data hash
-data_fields : (rs : List Range) (alg : Option (List ℕ)) (hash : List ℕ) → HasPlainKeys (data_hash_item (record { exclusions = rs; alg = alg; hash = hash }))
+data_fields : (rs : List Range) (alg : Option (List ℕ)) (hash : List ℕ)
+    → HasPlainKeys (data_hash_item (record { exclusions = rs; alg = alg; hash = hash }))
 unfolding shortest_head
 data_fields rs None hash = fields_plain ((codes "pad", bytes (replicate (pad_len rs) 0)) ∷ (codes "hash", bytes hash) ∷ (codes "exclusions", list (items_of (map range_item rs))) ∷ []) refl (tt, (tt, (each_plain range_item range_plain rs, tt)))
 data_fields rs (Some alg) hash = fields_plain ((codes "alg", text alg) ∷ (codes "pad", bytes (replicate (pad_len rs) 0)) ∷ (codes "hash", bytes hash) ∷ (codes "exclusions", list (items_of (map range_item rs))) ∷ []) refl (tt, (tt, (tt, (each_plain range_item range_plain rs, tt))))
@@ -82,15 +85,27 @@ exclusion_fields_plain : (path : List PathStep) (len : Option ℕ) (tests : List
     → HasPlainKeys (exclusion_item (record { path = path; length = len; tests = tests; subset = subset }))
 unfolding shortest_head
 exclusion_fields_plain path None [] None = fields_plain ((codes "xpath", text (steps_text path)) ∷ []) refl (tt, tt)
-exclusion_fields_plain path None [] (Some s) = fields_plain ((codes "xpath", text (steps_text path)) ∷ (codes "subset", list (items_of (map part_item s))) ∷ []) refl (tt, (each_plain part_item part_plain s, tt))
-exclusion_fields_plain path (Some n) [] None = fields_plain ((codes "xpath", text (steps_text path)) ∷ (codes "length", uint n) ∷ []) refl (tt, (tt, tt))
-exclusion_fields_plain path (Some n) [] (Some s) = fields_plain ((codes "xpath", text (steps_text path)) ∷ (codes "length", uint n) ∷ (codes "subset", list (items_of (map part_item s))) ∷ []) refl (tt, (tt, (each_plain part_item part_plain s, tt)))
-exclusion_fields_plain path None (t ∷ ts) None = fields_plain ((codes "data", list (items_of (map test_item (t ∷ ts)))) ∷ (codes "xpath", text (steps_text path)) ∷ []) refl (each_plain test_item test_plain (t ∷ ts), (tt, tt))
+exclusion_fields_plain path None [] (Some s) =
+    fields_plain ((codes "xpath", text (steps_text path)) ∷ (codes "subset", list (items_of (map part_item s))) ∷ [])
+    refl (tt, (each_plain part_item part_plain s, tt))
+exclusion_fields_plain path (Some n) [] None =
+    fields_plain ((codes "xpath", text (steps_text path)) ∷ (codes "length", uint n) ∷ []) refl (tt, (tt, tt))
+exclusion_fields_plain path (Some n) [] (Some s) =
+    fields_plain
+    ((codes "xpath", text (steps_text path)) ∷ (codes "length", uint n) ∷ (codes "subset", list (items_of (map part_item s))) ∷ [])
+    refl (tt, (tt, (each_plain part_item part_plain s, tt)))
+exclusion_fields_plain path None (t ∷ ts) None =
+    fields_plain
+    ((codes "data", list (items_of (map test_item (t ∷ ts)))) ∷ (codes "xpath", text (steps_text path)) ∷ []) refl
+    (each_plain test_item test_plain (t ∷ ts), (tt, tt))
 exclusion_fields_plain path None (t ∷ ts) (Some s) = fields_plain
     ((codes "data", list (items_of (map test_item (t ∷ ts)))) ∷ (codes "xpath", text (steps_text path))
     ∷ (codes "subset", list (items_of (map part_item s))) ∷ []) refl
     (each_plain test_item test_plain (t ∷ ts), (tt, (each_plain part_item part_plain s, tt)))
-exclusion_fields_plain path (Some n) (t ∷ ts) None = fields_plain ((codes "data", list (items_of (map test_item (t ∷ ts)))) ∷ (codes "xpath", text (steps_text path)) ∷ (codes "length", uint n) ∷ []) refl (each_plain test_item test_plain (t ∷ ts), (tt, (tt, tt)))
+exclusion_fields_plain path (Some n) (t ∷ ts) None =
+    fields_plain
+    ((codes "data", list (items_of (map test_item (t ∷ ts)))) ∷ (codes "xpath", text (steps_text path)) ∷ (codes "length", uint n) ∷ [])
+    refl (each_plain test_item test_plain (t ∷ ts), (tt, (tt, tt)))
 exclusion_fields_plain path (Some n) (t ∷ ts) (Some s) =
     fields_plain ((codes "data", list (items_of (map test_item (t ∷ ts)))) ∷ (codes "xpath", text (steps_text path))
     ∷ (codes "length", uint n) ∷ (codes "subset", list (items_of (map part_item s))) ∷ []) refl
@@ -101,32 +116,50 @@ exclusion_plain : (e : Exclusion) → HasPlainKeys (exclusion_item e)
 exclusion_plain e = exclusion_fields_plain e.path e.length e.tests e.subset
 
 -- the fields of a BMFF hash
-bmff_fields : (es : List Exclusion) (alg : Option (List ℕ)) (hash : List ℕ) → HasPlainKeys (bmff_hash_item (record { exclusions = es; alg = alg; hash = hash }))
+bmff_fields : (es : List Exclusion) (alg : Option (List ℕ)) (hash : List ℕ)
+    → HasPlainKeys (bmff_hash_item (record { exclusions = es; alg = alg; hash = hash }))
 unfolding shortest_head
-bmff_fields es None hash = fields_plain ((codes "hash", bytes hash) ∷ (codes "exclusions", list (items_of (map exclusion_item es))) ∷ []) refl (tt, (each_plain exclusion_item exclusion_plain es, tt))
-bmff_fields es (Some alg) hash = fields_plain ((codes "alg", text alg) ∷ (codes "hash", bytes hash) ∷ (codes "exclusions", list (items_of (map exclusion_item es))) ∷ []) refl (tt, (tt, (each_plain exclusion_item exclusion_plain es, tt)))
+bmff_fields es None hash =
+    fields_plain ((codes "hash", bytes hash) ∷ (codes "exclusions", list (items_of (map exclusion_item es))) ∷ []) refl
+    (tt, (each_plain exclusion_item exclusion_plain es, tt))
+bmff_fields es (Some alg) hash =
+    fields_plain
+    ((codes "alg", text alg) ∷ (codes "hash", bytes hash) ∷ (codes "exclusions", list (items_of (map exclusion_item es))) ∷ [])
+    refl (tt, (tt, (each_plain exclusion_item exclusion_plain es, tt)))
 
 -- a BMFF hash
 pub bmff_plain : (h : BmffHash) → HasPlainKeys (bmff_hash_item h)
 bmff_plain h = bmff_fields h.exclusions h.alg h.hash
 
 -- the fields of a reference
-ref_fields : (url hash : List ℕ) (alg : Option (List ℕ)) → HasPlainKeys (ref_item (record { url = url; hash = hash; alg = alg }))
+ref_fields : (url hash : List ℕ) (alg : Option (List ℕ))
+    → HasPlainKeys (ref_item (record { url = url; hash = hash; alg = alg }))
 unfolding shortest_head
 ref_fields url hash None = fields_plain ((codes "url", text url) ∷ (codes "hash", bytes hash) ∷ []) refl (tt, (tt, tt))
-ref_fields url hash (Some alg) = fields_plain ((codes "alg", text alg) ∷ (codes "url", text url) ∷ (codes "hash", bytes hash) ∷ []) refl (tt, (tt, (tt, tt)))
+ref_fields url hash (Some alg) =
+    fields_plain ((codes "alg", text alg) ∷ (codes "url", text url) ∷ (codes "hash", bytes hash) ∷ []) refl
+    (tt, (tt, (tt, tt)))
 
 -- a reference
 ref_plain : (r : Ref) → HasPlainKeys (ref_item r)
 ref_plain r = ref_fields r.url r.hash r.alg
 
 -- the fields of an ingredient
-ingredient_fields_plain : (r : Relationship) (m s : Option Ref) → HasPlainKeys (ingredient_item (record { relationship = r; manifest = m; signature = s }))
+ingredient_fields_plain : (r : Relationship) (m s : Option Ref)
+    → HasPlainKeys (ingredient_item (record { relationship = r; manifest = m; signature = s }))
 unfolding shortest_head
-ingredient_fields_plain r None None = fields_plain ((codes "relationship", text (relationship_word r)) ∷ []) refl (tt, tt)
-ingredient_fields_plain r None (Some s) = fields_plain ((codes "relationship", text (relationship_word r)) ∷ (codes "claimSignature", ref_item s) ∷ []) refl (tt, (ref_plain s, tt))
-ingredient_fields_plain r (Some m) None = fields_plain ((codes "relationship", text (relationship_word r)) ∷ (codes "activeManifest", ref_item m) ∷ []) refl (tt, (ref_plain m, tt))
-ingredient_fields_plain r (Some m) (Some s) = fields_plain ((codes "relationship", text (relationship_word r)) ∷ (codes "activeManifest", ref_item m) ∷ (codes "claimSignature", ref_item s) ∷ []) refl (tt, (ref_plain m, (ref_plain s, tt)))
+ingredient_fields_plain r None None =
+    fields_plain ((codes "relationship", text (relationship_word r)) ∷ []) refl (tt, tt)
+ingredient_fields_plain r None (Some s) =
+    fields_plain ((codes "relationship", text (relationship_word r)) ∷ (codes "claimSignature", ref_item s) ∷ []) refl
+    (tt, (ref_plain s, tt))
+ingredient_fields_plain r (Some m) None =
+    fields_plain ((codes "relationship", text (relationship_word r)) ∷ (codes "activeManifest", ref_item m) ∷ []) refl
+    (tt, (ref_plain m, tt))
+ingredient_fields_plain r (Some m) (Some s) =
+    fields_plain
+    ((codes "relationship", text (relationship_word r)) ∷ (codes "activeManifest", ref_item m) ∷ (codes "claimSignature", ref_item s) ∷ [])
+    refl (tt, (ref_plain m, (ref_plain s, tt)))
 
 -- an ingredient
 pub ingredient_plain : (i : Ingredient) → HasPlainKeys (ingredient_item i)

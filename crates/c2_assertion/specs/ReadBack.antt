@@ -12,7 +12,7 @@ pub record CanBeRead (e : Exclusion) : Type 0 where
   pub enters : enters_other e.path ≡ false
   pub parts : e.subset ≢ Some []
 
--- and its path is read of its text
+-- the exclusion is read again of its item: its path is read of its text, enters no box that none may enter, and a subset has a part
 pub record IsReadable (e : Exclusion) : Type 0 where
   pub path : HasText e.path
   pub rest : CanBeRead e

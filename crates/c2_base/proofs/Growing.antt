@@ -1,19 +1,8 @@
 -- What calls that write leave of a sink, one after the other.
-use Rattle.std.proofs.Common.{◌≡◌, refl, sym, ap, ◌∙◌, ℕ, ◌≤◌, Bool, List, [], ◌++◌, take, arith}
-use Rattle.std.proofs.lemmas.List.{append_assoc, append-nil}
+use Rattle.std.proofs.Common.{◌≡◌, refl, ap, ◌∙◌, ℕ, ◌≤◌, Bool, List, ◌++◌, take, arith}
 use Rattle.std.specs.declared.option.Option.{Option}
-use Rattle.std.specs.declared.option.Option.TheVariants.{Some, None}
 use Rattle.c2_base.specs.Sink.{Grows, HasWrittenPrefix, StaysSink, TakesPrefix, then_written}
-
--- nothing was written
-pub grows_none : (a : Option (List ℕ)) → Grows a a
-grows_none None = ([], refl)
-grows_none (Some w) = ([], ap Some (sym (append-nil w)))
-
--- a text after a text
-appended_twice : (a : Option (List ℕ)) (s t : List ℕ) → then_written (then_written a s) t ≡ then_written a (s ++ t)
-appended_twice None s t = refl
-appended_twice (Some w) s t = ap Some (append_assoc w s t)
+use Rattle.c2_base.proofs.Written.{appended_twice, grows_none}
 
 -- what was written stays under what follows
 pub grows_then : (a b c : Option (List ℕ)) → Grows a b → Grows b c → Grows a c
@@ -24,12 +13,15 @@ pub grows_prefix : (a b : Option (List ℕ)) (text : List ℕ) → HasWrittenPre
 grows_prefix a b text h = (take h.0 text, h.1)
 
 -- a sink that no call has touched
-pub stays_still : {K : Type 0} (written : K → Option (List ℕ)) (finished : K → Bool) (faults : K → ℕ) (k : K) → StaysSink written finished faults k k
-stays_still {K} written finished faults k = record { later = omega arith; grows = grows_none (written k); unfinished = refl }
+pub stays_still : {K : Type 0} (written : K → Option (List ℕ)) (finished : K → Bool) (faults : K → ℕ) (k : K)
+    → StaysSink written finished faults k k
+stays_still {K} written finished faults k =
+    record { later = omega arith; grows = grows_none (written k); unfinished = refl }
 
 -- two calls, one after the other
 pub stays_then : {K : Type 0} (written : K → Option (List ℕ)) (finished : K → Bool) (faults : K → ℕ) (a b c : K)
-    → StaysSink written finished faults a b → StaysSink written finished faults b c → StaysSink written finished faults a c
+    → StaysSink written finished faults a b → StaysSink written finished faults b c
+    → StaysSink written finished faults a c
 stays_then {K} written finished faults a b c p q = record {
   later = omega (arith, p.later, q.later);
   grows = grows_then (written a) (written b) (written c) p.grows q.grows;
@@ -38,5 +30,7 @@ stays_then {K} written finished faults a b c p q = record {
 
 -- a call that took a prefix of a text
 pub stays_taken : {K : Type 0} (written : K → Option (List ℕ)) (finished : K → Bool) (faults : K → ℕ) (spare : K → Option ℕ) (bytes : List ℕ) (old new : K)
-    → TakesPrefix written spare bytes old new → finished new ≡ finished old → faults old ≤ faults new → StaysSink written finished faults old new
-stays_taken {K} written finished faults spare bytes old new h same later = record { later = later; grows = (take h.count bytes, h.prefix); unfinished = same }
+    → TakesPrefix written spare bytes old new → finished new ≡ finished old → faults old ≤ faults new
+    → StaysSink written finished faults old new
+stays_taken {K} written finished faults spare bytes old new h same later =
+    record { later = later; grows = (take h.count bytes, h.prefix); unfinished = same }

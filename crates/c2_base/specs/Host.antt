@@ -14,7 +14,7 @@ file_len f = f.length
 abbrev pub file_faults : HostFile → ℕ
 file_faults f = f.faults
 
--- it is still the same file, as long as before
+-- a host file before and after a call: it is absent after it just when it was before, and as long as before
 pub record SameFile (old new : HostFile) : Type 0 where
   pub absent : is_absent new ≡ is_absent old
   pub len : file_len new ≡ file_len old

@@ -23,10 +23,10 @@ is_finished s = s.finished
 abbrev pub sink_faults : {R : Type 0} → HostSink R → ℕ
 sink_faults s = s.faults
 
--- no bytes of it are known
+-- no bytes of a host sink are known
 abbrev pub sink_written : {R : Type 0} → HostSink R → Option (List ℕ)
 sink_written s = None
 
--- it doesn't state what it surely takes
+-- a host sink doesn't state what it surely takes
 abbrev pub sink_spare : {R : Type 0} → HostSink R → Option ℕ
 sink_spare s = None

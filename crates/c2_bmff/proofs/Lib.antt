@@ -1,2 +1,3 @@
 mod MatchLemmas
+pub mod TheLaws
 mod TrailLemmas

@@ -13,7 +13,7 @@ AreExcluded file rows e ranges =
     (boxes : List Box) → HasRoots file boxes → rows ≡ rows_of boxes
     → (i : ℕ) → (is_excluded ranges i ≡ true) ↔ IsExcludedBy boxes e i
 
--- the same of these exclusions together
+-- where these rows are those of the root boxes of the file, the ranges hold exactly the positions that some of the exclusions excludes
 abbrev pub AreAllExcluded : List ℕ → List RootBox → List Exclusion → List Range → Type 0
 AreAllExcluded file rows exclusions ranges =
     (boxes : List Box) → HasRoots file boxes → rows ≡ rows_of boxes

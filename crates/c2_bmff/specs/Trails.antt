@@ -13,7 +13,7 @@ use Rattle.c2_bmff.specs.declared.walking.Coming.TheVariants as coming
 use Rattle.c2_bmff.specs.declared.walking.Level.{Level}
 use Rattle.c2_bmff.specs.declared.walking.Trail.{Trail}
 
--- of the coming siblings of a type, those that are meant
+-- the siblings that a step means among the coming ones of its type: all, the one behind `n` others, or none
 abbrev pub picks : Coming → List RootBox → List RootBox
 picks coming.Each rows = rows
 picks (coming.After n) rows = take 1 (drop n rows)
@@ -44,7 +44,8 @@ of_entry es k test = of_option (slice_get es k) test
 abbrev pub ahead : List ℕ → List SharedPath → ℕ → List RootBox → Trail → Bool
 ahead file es i rows t = of_entry es t.entry (λ (e : SharedPath). list_any (marks_any file e i) (rows_ahead file rows t e))
 
--- the same of an exclusion of which so many steps were taken, before the first of these siblings
+-- the exclusion of this index excludes a position through one of the boxes on the rest of its path, or below one: so many of its steps were
+-- taken before the first of these siblings
 abbrev pub from_step : List ℕ → List SharedPath → ℕ → List RootBox → ℕ → ℕ → Bool
 from_step file es i rows k taken = of_entry es k (λ (e : SharedPath). list_any (marks_any file e i) (on_rows file rows (drop taken e.path)))
 
@@ -76,6 +77,6 @@ IsLevelWithin len l = All (IsRowWithin len) l.rows.items
 abbrev pub level_left : Level → ℕ
 level_left l = 1 + 2 * rows_len (drop l.next l.rows.items)
 
--- of these lists
+-- what is left to walk of these lists of siblings together
 abbrev pub levels_left : List Level → ℕ
 levels_left ls = sum_by level_left ls

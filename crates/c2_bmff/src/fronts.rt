@@ -37,7 +37,7 @@ fn most_of(asks: &[Ask]) -> usize {
     most
 }
 
-// The same of all exclusions.
+// The most first bytes of a box that one of these exclusions asks for, and no more than are read at a time.
 fn most_asked(entries: &[Entry<'_>]) -> usize {
     let mut most = 0;
     for entry in entries {

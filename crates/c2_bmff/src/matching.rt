@@ -2,7 +2,7 @@
 ghost use Rattle.std.specs.Prelude.{◌≡◌, All, OnOk, IfOk, IfErr};
 ghost use Rattle.std.specs.Option.{ForSome};
 ghost use Rattle.c2_base.specs.Source.{StaysSource};
-ghost use Rattle.c2_bmff_boxes.specs.Causes.{IsCaused, OrOutside};
+ghost use Rattle.c2_bmff_boxes.specs.Causes.{IsBmffCaused, OrBmffFault};
 ghost use Rattle.c2_bmff_excluded.specs.Marks.{IsRangeWithin};
 ghost use Rattle.c2_bmff.specs.Matched.{AreAllExcluded, AreExcluded};
 ghost use Rattle.c2_bmff_rows.specs.Rows.{IsBoxWithin};
@@ -31,8 +31,8 @@ pub fn match_path<S: Source>(
     ensures within { IfOk result (All (IsRangeWithin (S.len source.old))) }
     ensures stays { StaysSource S.len S.known S.faults source.old source.new }
     ensures count { OnOk result (S.faults source.new ≡ S.faults source.old) }
-    ensures cause { IfErr result (IsCaused (S.faults source.old) (S.faults source.new)) }
-    ensures outside { IfErr result (λ e. OrOutside e ⊥) }
+    ensures cause { IfErr result (IsBmffCaused (S.faults source.old) (S.faults source.new)) }
+    ensures outside { IfErr result (λ e. OrBmffFault e ⊥) }
 {
     match mark_all(alloc, source, roots.as_slice(), slice::from_ref(entry)) {
         Ok(ranges) => Ok(Ranges::from_list(ranges)),
@@ -55,8 +55,8 @@ pub fn match_paths<S: Source>(
     ensures within { IfOk result (All (IsRangeWithin (S.len source.old))) }
     ensures stays { StaysSource S.len S.known S.faults source.old source.new }
     ensures count { OnOk result (S.faults source.new ≡ S.faults source.old) }
-    ensures cause { IfErr result (IsCaused (S.faults source.old) (S.faults source.new)) }
-    ensures outside { IfErr result (λ e. OrOutside e ⊥) }
+    ensures cause { IfErr result (IsBmffCaused (S.faults source.old) (S.faults source.new)) }
+    ensures outside { IfErr result (λ e. OrBmffFault e ⊥) }
 {
     match mark_all(alloc, source, roots.as_slice(), entries) {
         Ok(ranges) => Ok(Ranges::from_list(ranges)),

@@ -6,7 +6,7 @@ ghost use Rattle.c2_base.specs.Source.{StaysSource};
 ghost use Rattle.c2_spec.specs.Bmff.Hash.{Exclusion as AnyExclusion};
 ghost use Rattle.c2_spec.specs.Bmff.Paths.{nth_of};
 ghost use Rattle.c2_spec.specs.Cover.{is_excluded};
-ghost use Rattle.c2_bmff_boxes.specs.Causes.{IsCaused, OrOutside};
+ghost use Rattle.c2_bmff_boxes.specs.Causes.{IsBmffCaused, OrBmffFault};
 ghost use Rattle.c2_bmff_rows.specs.Rows.{IsRowWithin};
 ghost use Rattle.c2_bmff_rows.specs.Children.{kids};
 ghost use Rattle.c2_bmff_excluded.specs.Marks.{IsFront, IsRangeWithin, SharedPath, excludes_any, excludes_row, marks};
@@ -23,11 +23,11 @@ use std::alloc::Global;
 // Which of the coming siblings of a step's type the step means.
 #[derive(Clone, Copy, Debug, PartialEq, Eq)]
 pub enum Coming {
-    // All of them.
+    // The step means all coming siblings of its type.
     Each,
-    // The one before which so many others come.
+    // The step means the sibling of its type before which so many others come.
     After(u32),
-    // None any more.
+    // The step means none of the coming siblings.
     Done,
 }
 
@@ -38,9 +38,9 @@ pub struct Trail {
     entry: usize,
     // How many steps of its path were taken, with the one that is matched against these siblings.
     taken: usize,
-    // That step.
+    // The last step that was taken, which is matched against these siblings.
     step: Segment,
-    // Which of the siblings that are still to come it means.
+    // Which of the coming siblings that step means.
     coming: Coming,
 }
 
@@ -200,8 +200,8 @@ fn mark_asks<S: Source>(
     ensures within { OnOk result (All (IsRangeWithin (S.len source.old)) ranges.new.items) }
     ensures stays { StaysSource S.len S.known S.faults source.old source.new }
     ensures count { OnOk result (S.faults source.new ≡ S.faults source.old) }
-    ensures cause { IfErr result (IsCaused (S.faults source.old) (S.faults source.new)) }
-    ensures outside { IfErr result (λ e. OrOutside e ⊥) }
+    ensures cause { IfErr result (IsBmffCaused (S.faults source.old) (S.faults source.new)) }
+    ensures outside { IfErr result (λ e. OrBmffFault e ⊥) }
 {
     let mut count = filled;
     for ask in asks {
@@ -248,8 +248,8 @@ fn mark_each<S: Source>(
     ensures within { OnOk result (All (IsRangeWithin (S.len source.old)) ranges.new.items) }
     ensures stays { StaysSource S.len S.known S.faults source.old source.new }
     ensures count { OnOk result (S.faults source.new ≡ S.faults source.old) }
-    ensures cause { IfErr result (IsCaused (S.faults source.old) (S.faults source.new)) }
-    ensures outside { IfErr result (λ e. OrOutside e ⊥) }
+    ensures cause { IfErr result (IsBmffCaused (S.faults source.old) (S.faults source.new)) }
+    ensures outside { IfErr result (λ e. OrBmffFault e ⊥) }
 {
     let mut count = 0;
     for k in here {
@@ -262,7 +262,7 @@ fn mark_each<S: Source>(
     Ok(())
 }
 
-// The same, where the ranges of the box are joined before they are added.
+// Adds the positions that these exclusions exclude through the box of this row, where their ranges are joined before they are added.
 fn mark_here<S: Source>(
     alloc: Global,
     source: &mut S,
@@ -280,8 +280,8 @@ fn mark_here<S: Source>(
     ensures within { OnOk result (All (IsRangeWithin (S.len source.old)) marking.new.ranges.items) }
     ensures stays { StaysSource S.len S.known S.faults source.old source.new }
     ensures count { OnOk result (S.faults source.new ≡ S.faults source.old) }
-    ensures cause { IfErr result (IsCaused (S.faults source.old) (S.faults source.new)) }
-    ensures outside { IfErr result (λ e. OrOutside e ⊥) }
+    ensures cause { IfErr result (IsBmffCaused (S.faults source.old) (S.faults source.new)) }
+    ensures outside { IfErr result (λ e. OrBmffFault e ⊥) }
 {
     if is_whole(&marking.ranges, row) {
         return Ok(());
@@ -316,8 +316,8 @@ fn visit<S: Source>(
     ensures within { OnOk result (All (IsRangeWithin (S.len source.old)) marking.new.ranges.items) }
     ensures stays { StaysSource S.len S.known S.faults source.old source.new }
     ensures count { OnOk result (S.faults source.new ≡ S.faults source.old) }
-    ensures cause { IfErr result (IsCaused (S.faults source.old) (S.faults source.new)) }
-    ensures outside { IfErr result (λ e. OrOutside e ⊥) }
+    ensures cause { IfErr result (IsBmffCaused (S.faults source.old) (S.faults source.new)) }
+    ensures outside { IfErr result (λ e. OrBmffFault e ⊥) }
 {
     let mut here = Vec::new(alloc);
     let mut below = Vec::new(alloc);
@@ -395,8 +395,8 @@ fn open_row<S: Source>(
         (levels_left levels.new.items < levels_left levels.old.items + 2 * row.length) }
     ensures stays { StaysSource S.len S.known S.faults source.old source.new }
     ensures count { OnOk result (S.faults source.new ≡ S.faults source.old) }
-    ensures cause { IfErr result (IsCaused (S.faults source.old) (S.faults source.new)) }
-    ensures outside { IfErr result (λ e. OrOutside e ⊥) }
+    ensures cause { IfErr result (IsBmffCaused (S.faults source.old) (S.faults source.new)) }
+    ensures outside { IfErr result (λ e. OrBmffFault e ⊥) }
 {
     if below.is_empty() {
         return Ok(());
@@ -433,8 +433,8 @@ fn turn<S: Source>(
     ensures within { OnOk result (All (IsRangeWithin (S.len source.old)) marking.new.ranges.items) }
     ensures stays { StaysSource S.len S.known S.faults source.old source.new }
     ensures count { OnOk result (S.faults source.new ≡ S.faults source.old) }
-    ensures cause { IfErr result (IsCaused (S.faults source.old) (S.faults source.new)) }
-    ensures outside { IfErr result (λ e. OrOutside e ⊥) }
+    ensures cause { IfErr result (IsBmffCaused (S.faults source.old) (S.faults source.new)) }
+    ensures outside { IfErr result (λ e. OrBmffFault e ⊥) }
 {
     let next = level.next;
     if next >= level.rows.len() {
@@ -469,8 +469,8 @@ fn walk<S: Source>(
     ensures within { OnOk result (All (IsRangeWithin (S.len source.old)) marking.new.ranges.items) }
     ensures stays { StaysSource S.len S.known S.faults source.old source.new }
     ensures count { OnOk result (S.faults source.new ≡ S.faults source.old) }
-    ensures cause { IfErr result (IsCaused (S.faults source.old) (S.faults source.new)) }
-    ensures outside { IfErr result (λ e. OrOutside e ⊥) }
+    ensures cause { IfErr result (IsBmffCaused (S.faults source.old) (S.faults source.new)) }
+    ensures outside { IfErr result (λ e. OrBmffFault e ⊥) }
 {
     let mut full = JOINED_FROM;
     'boxes: while let Some(level) = levels.pop() {
@@ -497,8 +497,8 @@ pub(crate) fn mark_all<S: Source>(
     ensures within { IfOk result (λ ranges. All (IsRangeWithin (S.len source.old)) ranges.items) }
     ensures stays { StaysSource S.len S.known S.faults source.old source.new }
     ensures count { OnOk result (S.faults source.new ≡ S.faults source.old) }
-    ensures cause { IfErr result (IsCaused (S.faults source.old) (S.faults source.new)) }
-    ensures outside { IfErr result (λ e. OrOutside e ⊥) }
+    ensures cause { IfErr result (IsBmffCaused (S.faults source.old) (S.faults source.new)) }
+    ensures outside { IfErr result (λ e. OrBmffFault e ⊥) }
 {
     let ranges = Vec::new(alloc);
     let mut levels = Vec::new(alloc);

@@ -2,7 +2,7 @@
 use Rattle.std.specs.Prelude.{◌⊎◌}
 use Rattle.std.proofs.Common.{◌≡◌, ⊎_elim, ℕ, List, length, ap, arith, lit≤}
 use Rattle.c2_assertion.specs.Written.{bmff_hash_item}
-use Rattle.c2_new_bmff_spec.specs.Films.{new_bmff_hash}
+use Rattle.c2_new_file_spec.specs.Films.{new_bmff_hash}
 use Rattle.c2_spec.specs.Cbor.Item.{Item, text}
 use Rattle.c2_spec.specs.Cbor.Legal.{HasBadSimple, HasDistinctKeys, IsLegal}
 use Rattle.c2_spec.specs.declared.digest.Alg.{Alg}
@@ -43,7 +43,7 @@ distinct alg digest = (
 pair_no : {V R : Type 0} → (V → ⊥) → (R → ⊥) → ⊥ ⊎ (V ⊎ R) → ⊥
 pair_no v r h = ⊎_elim (λ (e : ⊥). e) (λ w. ⊎_elim v r w) h
 
--- nor in an item of a list, nor in those after it
+-- no simple value is in an item of a list, nor in those after it
 item_no : {V R : Type 0} → (V → ⊥) → (R → ⊥) → V ⊎ R → ⊥
 item_no v r h = ⊎_elim v r h
 
@@ -51,10 +51,11 @@ item_no v r h = ⊎_elim v r h
 none : ⊥ → ⊥
 none e = e
 
--- so none is in the item
+-- no simple value from 24 to 31 is in the item of a BMFF hash
 no_bad : (alg : Alg) (digest : List ℕ) → HasBadSimple (bmff_hash_item (new_bmff_hash alg digest)) → ⊥
 no_bad alg digest =
-    pair_no none (pair_no none (pair_no (item_no (pair_no (item_no (pair_no none (pair_no none none)) none) (pair_no none none)) (item_no (pair_no none none) (item_no (pair_no none none) none))) none))
+    pair_no none
+    (pair_no none (pair_no (item_no (pair_no (item_no (pair_no none (pair_no none none)) none) (pair_no none none)) (item_no (pair_no none none) (item_no (pair_no none none) none))) none))
 
 -- the item has these levels, and keys that differ
 pub bmff_legal : (alg : Alg) (digest : List ℕ) → IsLegal (bmff_hash_item (new_bmff_hash alg digest))

@@ -1,7 +1,7 @@
 // The binding of a new BMFF file.
 ghost use Rattle.std.specs.Prelude.{◌≡◌, IfOk};
 ghost use Rattle.c2_assertion.specs.Written.{bmff_hash_item};
-ghost use Rattle.c2_new_bmff_spec.specs.Films as films;
+ghost use Rattle.c2_new_file_spec.specs.Films as films;
 ghost use Rattle.c2_spec.specs.Cbor.Deterministic.{deterministic};
 ghost use Rattle.c2_spec.specs.Cbor.Legal.{IsLegal};
 ghost use Rattle.c2_spec.specs.Cbor.View.{view};

@@ -4,7 +4,7 @@ use Rattle.std.specs.Option.{ForSome}
 use Rattle.std.specs.declared.option.Option.{Option}
 use Rattle.std.specs.declared.result.Result.{Result}
 use Rattle.c2_base.specs.declared.media.MediaError.{MediaError}
-use Rattle.c2_bmff_boxes.specs.Causes.{OrOutside}
+use Rattle.c2_bmff_boxes.specs.Causes.{OrBmffFault}
 use Rattle.c2_spec.specs.Bmff.Boxes.{Box, HasRoots}
 use Rattle.c2_spec.specs.Bmff.Writing.{built_text}
 use Rattle.c2_spec.specs.Digest.{digest_len}
@@ -16,7 +16,7 @@ IsRootsDigest hash digest file = (roots : List Box) → HasRoots file roots → 
 
 -- the error is a fault or want of memory, where the file has root boxes
 abbrev pub IsUnrefused : MediaError → List ℕ → Type 0
-IsUnrefused e file = (roots : List Box) → HasRoots file roots → OrOutside e ⊥
+IsUnrefused e file = (roots : List Box) → HasRoots file roots → OrBmffFault e ⊥
 
 -- The digest by this algorithm of what they leave of a file: of one that tells its bytes it is that, where the file has root boxes, and an error
 -- is a fault or want of memory; of all files it has the algorithm's length.

@@ -17,7 +17,7 @@ range_of f = c2pa_frame_len + f.store_len
 abbrev pub moved : Front → List ℕ → List ℕ
 moved f file = shifted f.place (range_of f) f.tables file
 
--- and with the box of a store put in
+-- the file with moved places, with the box of a store put in
 abbrev pub with_store : Front → List ℕ → List ℕ → List ℕ
 with_store f store file = put_in f.place (box_bytes (c2pa_box store)) (moved f file)
 

@@ -2,7 +2,7 @@
 ghost use Rattle.std.specs.Prelude.{◌≡◌, ◌+◌, ◌<◌, IfErr, IfOk, length, option_map};
 ghost use Rattle.std.specs.Option.{ForSome};
 ghost use Rattle.c2_base.specs.Source.{ReadsSource};
-ghost use Rattle.c2_bmff_boxes.specs.Causes.{IsCaused};
+ghost use Rattle.c2_bmff_boxes.specs.Causes.{IsBmffCaused};
 ghost use Rattle.c2_spec.specs.Digest.{digest_len};
 ghost use Rattle.c2_spec.specs.PutIn.{put_in};
 ghost use Rattle.c2_bmff_binding_front.specs.Digests.{IsFileDigest, IsRootsDigest, IsUnrefused};
@@ -12,7 +12,7 @@ use crate::Front;
 use crate::frame::{FRAME_LEN, blank_box};
 use c2_base::{MediaError, NoMemory, Source};
 use c2_bmff_binding_hash::{BmffError, bmff_digest};
-use c2_bmff_boxes::{a_file_has_one_list_of_roots, roots};
+use c2_bmff_boxes::roots;
 use c2_hash::{Alg, Digest, Hashing};
 use c2_inserted::{Inserted, NamedPiece};
 use c2_shift::{NamedTables, Shifted};
@@ -32,10 +32,8 @@ impl<'h, H: Hashing> Digesting<'h, H> {
     fn of_file<S: Source>(&self, file: &mut S, buf: &mut [u8]) -> Result<Digest, MediaError>
         requires { 0 < length buf.old }
         ensures digest { IsFileDigest H.digest_of self.now.alg (S.known file.old) result }
-        ensures reads { ReadsSource S.len S.known S.faults IsCaused file.old file.new result }
+        ensures reads { ReadsSource S.len S.known S.faults IsBmffCaused file.old file.new result }
     {
-        // Only the prover needs this law.
-        a_file_has_one_list_of_roots();
         // Matched and not handed up by `?`, here and below: each way out has clauses of its own.
         let roots = match roots(self.alloc, file) {
             Ok(roots) => roots,
@@ -65,7 +63,8 @@ impl<'h, H: Hashing> Digesting<'h, H> {
         ensures same { result.ghost_name ≡ base.entry.ghost_name }
         ensures digest { IsFileDigest H.digest_of self.now.alg
             (option_map (put_in place piece.now) (B.known base.old)) found.new }
-        ensures reads { ReadsSource B.len B.known B.faults IsCaused base.old result.now found.new }
+        ensures reads { ReadsSource B.len B.known B.faults IsBmffCaused
+            base.old result.now found.new }
     {
         let mut file = Inserted::<B, K>::new(base, place, piece);
         *found = self.of_file(&mut file, buf);
@@ -84,7 +83,7 @@ impl<'h, H: Hashing> Digesting<'h, H> {
         requires room { 0 < length buf.old }
         ensures digest { IsFileDigest H.digest_of self.now.alg
             (option_map (put_in place piece.now) (B.known base.old)) result }
-        ensures reads { ReadsSource B.len B.known B.faults IsCaused base.old base.new result }
+        ensures reads { ReadsSource B.len B.known B.faults IsBmffCaused base.old base.new result }
     {
         let mut found = Err(MediaError::NoMemory);
         let _base = self.over_named::<B, Brand>(base, place, piece, buf, &mut found);
@@ -109,7 +108,8 @@ impl<'h, H: Hashing> Digesting<'h, H> {
         ensures digest { IsFileDigest H.digest_of self.now.alg (option_map
             (put_in front.now.place piece.now) (option_map (moved front.now) (A.known media.old)))
             found.new }
-        ensures reads { ReadsSource A.len A.known A.faults IsCaused media.old result.now found.new }
+        ensures reads { ReadsSource A.len A.known A.faults IsBmffCaused
+            media.old result.now found.new }
     {
         let moves = FRAME_LEN + front.store_len;
         let mut base = Shifted::<A, K>::new(media, &front.tables, front.place, moves);
@@ -130,7 +130,7 @@ impl<'h, H: Hashing> Digesting<'h, H> {
         ensures digest { IsFileDigest H.digest_of self.now.alg (option_map
             (put_in front.now.place piece.now) (option_map (moved front.now) (A.known media.old)))
             result }
-        ensures reads { ReadsSource A.len A.known A.faults IsCaused media.old media.new result }
+        ensures reads { ReadsSource A.len A.known A.faults IsBmffCaused media.old media.new result }
     {
         let mut found = Err(MediaError::NoMemory);
         let _media = self.moved_named::<A, Brand>(media, front, piece, buf, &mut found);
@@ -159,7 +159,7 @@ pub fn front_digest<A: Source, H: Hashing>(
     ensures len { IfOk result (λ d. length d ≡ digest_len alg) }
     ensures refused { IfErr result (λ e. ForSome (A.known media.old) (λ file.
         IsUnrefused e (with_blank front.now file))) }
-    ensures reads { ReadsSource A.len A.known A.faults IsCaused media.old media.new result }
+    ensures reads { ReadsSource A.len A.known A.faults IsBmffCaused media.old media.new result }
 {
     let Ok(piece) = blank_box(alloc, front.store_len) else {
         return Err(MediaError::NoMemory);

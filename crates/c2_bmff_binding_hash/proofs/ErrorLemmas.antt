@@ -12,8 +12,9 @@ of_boxes before now (cover.BadRange i) h = absurd h
 of_boxes before now cover.ReadFault h = tt
 of_boxes before now cover.NoMemory h = tt
 
--- the same error has its cause
-pub same_cause : (before now : ℕ) (e : CoverError) (f : BmffError) → IsSameError e f → IsBmffCause before now e → IsBmffHashCause before now f
+-- an error of a BMFF hash has the cause of the cover's error that it is
+pub same_cause : (before now : ℕ) (e : CoverError) (f : BmffError) → IsSameError e f → IsBmffCause before now e
+    → IsBmffHashCause before now f
 same_cause before now (cover.BadRange i) f is h = absurd h
 same_cause before now cover.ReadFault f is h = subst (IsBmffHashCause before now) (sym is) h
 same_cause before now cover.NoMemory f is h = subst (IsBmffHashCause before now) (sym is) tt

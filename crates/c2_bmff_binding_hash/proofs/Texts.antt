@@ -9,5 +9,8 @@ use Rattle.c2_spec.specs.Bmff.Boxes.{Box, HasRoots}
 use Rattle.c2_spec.specs.Bmff.Writing.{built_exclusions, built_text}
 
 -- what a cover by the exclusions of a new hash leaves of a file is told by its root boxes
-pub new_bmff_text : (law : CoverIsBuiltText) (file : List ℕ) (rows : List RootBox) (c : Covered) (boxes : List Box) → IsBmffCoverOf file rows built_exclusions c → HasRoots file boxes → rows ≡ rows_of boxes → text_of c file ≡ built_text boxes
-new_bmff_text law file rows c boxes is has same = law file boxes (length file) (excluded_of c) (text_of c file) has (is boxes has same)
+pub new_bmff_text : (law : CoverIsBuiltText) (file : List ℕ) (rows : List RootBox) (c : Covered) (boxes : List Box)
+    → IsBmffCoverOf file rows built_exclusions c → HasRoots file boxes → rows ≡ rows_of boxes
+    → text_of c file ≡ built_text boxes
+new_bmff_text law file rows c boxes is has same =
+    law file boxes (length file) (excluded_of c) (text_of c file) has (is boxes has same)

@@ -13,7 +13,6 @@ use crate::error::{BmffError, bmff_error};
 use c2_base::Source;
 use c2_bmff::types::Roots;
 use c2_bmff_binding_exclusions::new_exclusions;
-use c2_bmff_insert_spec::a_put_store_is_not_covered;
 use c2_cover::{Cover, bmff_cover, digest_cover};
 use c2_hash::{Alg, Digest, Hashing};
 use std::alloc::Global;
@@ -63,8 +62,6 @@ pub fn bmff_digest<S: Source, H: Hashing>(
     ensures count { OnOk result (S.faults source.new ≡ S.faults source.old) }
     ensures stays { StaysSource S.len S.known S.faults source.old source.new }
 {
-    // Only the prover needs this law.
-    a_put_store_is_not_covered();
     let cover = new_bmff_cover(alloc, source, roots)?;
     let digest = digest_cover(hashing, source, &cover, alg, buf)?;
     Ok(digest)

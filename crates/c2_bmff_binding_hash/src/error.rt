@@ -17,7 +17,7 @@ pub enum BmffError {
     NoMemory,
 }
 
-// The same error as one of the cover, which is none of its ranges: those of boxes lie in their file.
+// The error of a cover as one of a BMFF hash. It is none of the cover's ranges: those of boxes lie in their file.
 pub(crate) fn bmff_error(error: CoverError) -> BmffError
     requires { IsOfBoxes error }
     ensures { IsSameError error result }

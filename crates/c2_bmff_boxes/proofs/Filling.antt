@@ -10,7 +10,8 @@ use Rattle.c2_bmff_boxes.specs.Children.{rows_len}
 use Rattle.c2_bmff_boxes.specs.Roots.{FillSource}
 
 -- one row more
-pub fill_more : (at low : ℕ) (rows : List RootBox) (r : RootBox) → FillSource at low rows → r.start ≡ at → r.header ≤ r.length → 8 ≤ r.header → FillSource (at + r.length) low (rows ++ r ∷ [])
+pub fill_more : (at low : ℕ) (rows : List RootBox) (r : RootBox) → FillSource at low rows → r.start ≡ at
+    → r.header ≤ r.length → 8 ≤ r.header → FillSource (at + r.length) low (rows ++ r ∷ [])
 fill_more at low [] r f e h l = (e ∙ sym f, h, l, ap (λ n. n + r.length) f)
 fill_more at low (x ∷ xs) r f e h l = (f.0, f.1, f.2, fill_more at (low + x.length) xs r f.3 e h l)
 
@@ -20,9 +21,11 @@ fill_end size low [] f = omega (arith, f)
 fill_end size low (r ∷ rs) f = omega (arith, fill_end size (low + r.length) rs f.3)
 
 -- each of them ends in the source
-pub fill_within_by : (size low : ℕ) (rows : List RootBox) → FillSource size low rows → AllByRecursion (IsBoxWithin size) rows
+pub fill_within_by : (size low : ℕ) (rows : List RootBox) → FillSource size low rows
+    → AllByRecursion (IsBoxWithin size) rows
 fill_within_by size low [] f = tt
-fill_within_by size low (r ∷ rs) f = (omega (arith, f.0, fill_end size (low + r.length) rs f.3), fill_within_by size (low + r.length) rs f.3)
+fill_within_by size low (r ∷ rs) f =
+    (omega (arith, f.0, fill_end size (low + r.length) rs f.3), fill_within_by size (low + r.length) rs f.3)
 
 -- rows that fill a source end in it
 pub fill_within : (size low : ℕ) (rows : List RootBox) → FillSource size low rows → All (IsBoxWithin size) rows
@@ -38,12 +41,15 @@ pub fill_headed : (size low : ℕ) (rows : List RootBox) → FillSource size low
 fill_headed size low rows f = All-from_recursion HasHeader rows (fill_headed_by size low rows f)
 
 -- rows that end in a part of a source, and have headers
-fill_rows_by : (size low len : ℕ) (rows : List RootBox) → FillSource size low rows → size ≤ len → AllByRecursion (IsRowWithin len) rows
+fill_rows_by : (size low len : ℕ) (rows : List RootBox) → FillSource size low rows → size ≤ len
+    → AllByRecursion (IsRowWithin len) rows
 fill_rows_by size low len [] f h = tt
-fill_rows_by size low len (r ∷ rs) f h = ((omega (arith, f.0, fill_end size (low + r.length) rs f.3, h), f.1, f.2), fill_rows_by size (low + r.length) len rs f.3 h)
+fill_rows_by size low len (r ∷ rs) f h =
+    ((omega (arith, f.0, fill_end size (low + r.length) rs f.3, h), f.1, f.2), fill_rows_by size (low + r.length) len rs f.3 h)
 
 -- rows that fill a part of a source end in it, and have headers
-pub fill_rows : (size low len : ℕ) (rows : List RootBox) → FillSource size low rows → size ≤ len → All (IsRowWithin len) rows
+pub fill_rows : (size low len : ℕ) (rows : List RootBox) → FillSource size low rows → size ≤ len
+    → All (IsRowWithin len) rows
 fill_rows size low len rows f h = All-from_recursion (IsRowWithin len) rows (fill_rows_by size low len rows f h)
 
 -- how many bytes rows have together that fill a part of a source

@@ -1,5 +1,6 @@
 pub mod Appending
 pub mod ChildLemmas
+pub mod Filling
 pub mod FoundLemmas
 pub mod HeaderLemmas
 pub mod LastRows
@@ -9,5 +10,5 @@ pub mod RowLemmas
 pub mod SearchLemmas
 pub mod SomeOutcome
 pub mod StoreBytes
+pub mod TheLaws
 pub mod WalkLemmas
-pub mod Filling

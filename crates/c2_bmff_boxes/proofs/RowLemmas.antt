@@ -26,26 +26,35 @@ record RowAt (file : List ℕ) (boxes : List Box) (n : ℕ) (r : RootBox) : Type
   pub more : take (n + 1) boxes ≡ take n boxes ++ at.box ∷ []
 
 -- each row has its box
-row_at_file : (file : List ℕ) (boxes : List Box) (rows : List RootBox) (n : ℕ) (r : RootBox) (others : List RootBox) → HasRoots file boxes → rows ≡ rows_of boxes → drop n rows ≡ r ∷ others → RowAt file boxes n r
+row_at_file : (file : List ℕ) (boxes : List Box) (rows : List RootBox) (n : ℕ) (r : RootBox) (others : List RootBox)
+    → HasRoots file boxes → rows ≡ rows_of boxes → drop n rows ≡ r ∷ others → RowAt file boxes n r
 row_at_file file boxes rows n r others has same next =
-    let b : BoxAt 0 boxes n r = box_at 0 boxes n r others has.forms (ap (λ (xs : List RootBox). drop n xs) (sym same) ∙ next) in
+    let b : BoxAt 0 boxes n r =
+    box_at 0 boxes n r others has.forms (ap (λ (xs : List RootBox). drop n xs) (sym same) ∙ next) in
     let zero' : 0 + boxes_len (take n boxes) ≡ boxes_len (take n boxes) = omega arith in
     let one : n + 1 ≡ suc n = omega arith in
-    let row : r ≡ row_of (record { at = boxes_len (take n boxes); box = b.box }) = b.row ∙ ap (λ (k : ℕ). row_of (record { at = k; box = b.box })) zero' in
+    let row : r ≡ row_of (record { at = boxes_len (take n boxes); box = b.box }) =
+    b.row ∙ ap (λ (k : ℕ). row_of (record { at = k; box = b.box })) zero' in
     record {
       at = b;
       start = ap (λ (x : RootBox). x.start) row;
       len = ap (λ (x : RootBox). x.length) row;
       kind = ap (λ (x : RootBox). x.kind) row;
-      payload = ap (payload_at file) row ∙ payload_is file (take n boxes) (drop (suc n) boxes) b.box b.is_box (has.bytes ∙ ap (flat_map box_bytes) b.split);
+      payload =
+          ap (payload_at file) row
+          ∙ payload_is file (take n boxes) (drop (suc n) boxes) b.box b.is_box
+          (has.bytes ∙ ap (flat_map box_bytes) b.split);
       more = ap (λ k. take k boxes) one ∙ b.more;
     }
 
 -- past a box of another type
-pub row_not : (file : List ℕ) (rows : List RootBox) (n : ℕ) (r : RootBox) (others : List RootBox) (found : Option Found) → drop n rows ≡ r ∷ others → SearchedTo file rows n found → bytes_eq r.kind uuid_kind ≡ false → SearchedTo file rows (n + 1) found
+pub row_not : (file : List ℕ) (rows : List RootBox) (n : ℕ) (r : RootBox) (others : List RootBox) (found : Option Found)
+    → drop n rows ≡ r ∷ others → SearchedTo file rows n found → bytes_eq r.kind uuid_kind ≡ false
+    → SearchedTo file rows (n + 1) found
 row_not file rows n r others found next s no' boxes has same =
     let b : RowAt file boxes n r = row_at_file file boxes rows n r others has same next in
-    subst (λ (xs : List Box). Searched xs found) (sym b.more) (searched_not (take n boxes) b.at.box found (s boxes has same) (ap (λ (k : List ℕ). bytes_eq k uuid_kind) (sym b.kind) ∙ no'))
+    subst (λ (xs : List Box). Searched xs found) (sym b.more)
+    (searched_not (take n boxes) b.at.box found (s boxes has same) (ap (λ (k : List ℕ). bytes_eq k uuid_kind) (sym b.kind) ∙ no'))
 
 -- past a `uuid` box
 pub row_uuid : (file : List ℕ) (rows : List RootBox) (n : ℕ) (r : RootBox) (others : List RootBox)
@@ -68,7 +77,8 @@ pub row_fails : (file : List ℕ) (rows : List RootBox) (n : ℕ) (r : RootBox) 
 row_fails file rows n r others found e next roots s yes' fails =
     let b : RowAt file roots.boxes n r = row_at_file file roots.boxes rows n r others roots.has_roots roots.are next in
     searched_fails file roots.boxes (take n roots.boxes) (drop (suc n) roots.boxes) b.at.box r found e roots.has_roots
-    b.at.split (s roots.boxes roots.has_roots roots.are) (ap (λ (k : List ℕ). bytes_eq k uuid_kind) (sym b.kind) ∙ yes') b.start
+    b.at.split (s roots.boxes roots.has_roots roots.are) (ap (λ (k : List ℕ). bytes_eq k uuid_kind) (sym b.kind) ∙ yes')
+    b.start
     (subst (λ (p : List ℕ). FailsBy (payload_part (is_some found) p) r e) b.payload fails)
 
 -- before the first row
@@ -76,7 +86,8 @@ pub rows_start : (file : List ℕ) (rows : List RootBox) → SearchedTo file row
 rows_start file rows boxes has same = searched_none
 
 -- after the last
-pub rows_end : (file : List ℕ) (rows : List RootBox) (n : ℕ) (found : Option Found) → length rows ≤ n → AreRootsOf file rows → SearchedTo file rows n found → IsStoreOr file (Ok found)
+pub rows_end : (file : List ℕ) (rows : List RootBox) (n : ℕ) (found : Option Found) → length rows ≤ n
+    → AreRootsOf file rows → SearchedTo file rows n found → IsStoreOr file (Ok found)
 rows_end file rows n found done roots s =
     let counted : length rows ≡ length roots.boxes = ap length roots.are ∙ length-rows roots.boxes in
     let all : take n roots.boxes ≡ roots.boxes = take_all n roots.boxes (omega (arith, counted, done)) in

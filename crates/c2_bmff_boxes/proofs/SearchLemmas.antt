@@ -31,8 +31,9 @@ pub record BoxAt (p : ℕ) (boxes : List Box) (n : ℕ) (r : RootBox) : Type 0 w
 first_same : {X : Type 0} (x y : X) (xs ys : List X) → x ∷ xs ≡ y ∷ ys → x ≡ y
 first_same x y xs ys e = cc (e)
 
--- it is there
-pub box_at : (p : ℕ) (boxes : List Box) (n : ℕ) (r : RootBox) (rs : List RootBox) → AreBoxForms boxes → drop n (map row_of (placed_from p boxes)) ≡ r ∷ rs → BoxAt p boxes n r
+-- behind `n` rows of root boxes, the next row is that of a box there
+pub box_at : (p : ℕ) (boxes : List Box) (n : ℕ) (r : RootBox) (rs : List RootBox) → AreBoxForms boxes
+    → drop n (map row_of (placed_from p boxes)) ≡ r ∷ rs → BoxAt p boxes n r
 box_at p [] zero r rs f e = absurd (cc (e))
 box_at p [] (suc n) r rs f e = absurd (cc (e))
 box_at p (b ∷ bs) zero r rs f e = let z : p ≡ p + 0 = omega arith in record {
@@ -40,11 +41,15 @@ box_at p (b ∷ bs) zero r rs f e = let z : p ≡ p + 0 = omega arith in record 
   is_box = first_box b bs f;
   split = refl;
   more = refl;
-  row = first_same r (row_of (record { at = p; box = b })) rs _ (sym e) ∙ ap (λ (k : ℕ). row_of (record { at = k; box = b })) z;
+  row =
+      first_same r (row_of (record { at = p; box = b })) rs _ (sym e)
+      ∙ ap (λ (k : ℕ). row_of (record { at = k; box = b })) z;
 }
 box_at p (b ∷ bs) (suc n) r rs f e =
     let h : BoxAt (p + box_len b) bs n r = box_at (p + box_len b) bs n r rs (other_boxes b bs f) e in
-    let size : boxes_len (b ∷ take n bs) ≡ box_len b + boxes_len (take n bs) = length-append (box_bytes b) (flat_map box_bytes (take n bs)) ∙ ap (λ k. k + boxes_len (take n bs)) (bytes_size b (first_box b bs f)) in
+    let size : boxes_len (b ∷ take n bs) ≡ box_len b + boxes_len (take n bs) =
+    length-append (box_bytes b) (flat_map box_bytes (take n bs))
+    ∙ ap (λ k. k + boxes_len (take n bs)) (bytes_size b (first_box b bs f)) in
     let place : p + box_len b + boxes_len (take n bs) ≡ p + boxes_len (b ∷ take n bs) = omega (arith, size) in
     record {
       box = h.box;
@@ -55,11 +60,15 @@ box_at p (b ∷ bs) (suc n) r rs f e =
     }
 
 -- the payload of its row is that of the box
-pub payload_is : (file : List ℕ) (before after : List Box) (b : Box) → IsBox b → file ≡ flat_map box_bytes (before ++ b ∷ after) → payload_at file (row_of (record { at = boxes_len before; box = b })) ≡ b.payload
+pub payload_is : (file : List ℕ) (before after : List Box) (b : Box) → IsBox b
+    → file ≡ flat_map box_bytes (before ++ b ∷ after)
+    → payload_at file (row_of (record { at = boxes_len before; box = b })) ≡ b.payload
 payload_is file before after b is e =
     let rest : List ℕ = flat_map box_bytes after in
-    let whole : file ≡ flat_map box_bytes before ++ (box_bytes b ++ rest) = e ∙ flat_map-append box_bytes before (b ∷ after) in
-    let header : length (header_bytes b.form (box_len b) b.kind) ≡ header_len b.form = header_size b.form (box_len b) b.kind is.kind in
+    let whole : file ≡ flat_map box_bytes before ++ (box_bytes b ++ rest) =
+    e ∙ flat_map-append box_bytes before (b ∷ after) in
+    let header : length (header_bytes b.form (box_len b) b.kind) ≡ header_len b.form =
+    header_size b.form (box_len b) b.kind is.kind in
     let len : box_len b - header_len b.form ≡ length b.payload = omega arith in
     ap (take (box_len b - header_len b.form))
     (ap (drop (boxes_len before + header_len b.form)) whole ∙ drop-append-add (flat_map box_bytes before) (box_bytes b ++ rest) (header_len b.form)
@@ -69,7 +78,8 @@ payload_is file before after b is e =
 -- ---- all pass
 
 -- the last box of a list, or one before it
-snoc : (bs : List Box) (b : Box) (cs : List Box) (c : Box) (ds : List Box) → bs ++ b ∷ [] ≡ cs ++ c ∷ ds → ((bs ≡ cs) × (b ≡ c)) ⊎ ((zs : List Box) × (bs ≡ cs ++ c ∷ zs))
+snoc : (bs : List Box) (b : Box) (cs : List Box) (c : Box) (ds : List Box) → bs ++ b ∷ [] ≡ cs ++ c ∷ ds
+    → ((bs ≡ cs) × (b ≡ c)) ⊎ ((zs : List Box) × (bs ≡ cs ++ c ∷ zs))
 snoc [] b [] c ds e = inl (refl, first_same b c [] ds e)
 snoc [] b (d ∷ cs) c ds e = absurd (no_room cs c ds (others_same b d [] (cs ++ c ∷ ds) e))
   where
@@ -107,14 +117,20 @@ pass_none before after b e = absurd (no_room before b after e)
 
 -- the tests of a `uuid` box of C2PA
 abbrev pub tests : Bool → Bool → Bool → Bool → Bool → Bool → ℕ → Part
-tests u v m found hs big n = cond (not u) part.Other (cond (not v) part.Bad (cond (not m) part.Other (cond found part.Second (cond (not hs) part.Bad (cond big (part.TooLarge n) (part.Holds n))))))
+tests u v m found hs big n =
+    cond (not u) part.Other
+    (cond (not v) part.Bad (cond (not m) part.Other (cond found part.Second (cond (not hs) part.Bad (cond big (part.TooLarge n) (part.Holds n))))))
 
--- the same as faults
+-- the faults of a `uuid` box of C2PA by its tests
 abbrev pub faults : Bool → Bool → Bool → Bool → Bool → Bool → ℕ → ℕ → Option MediaError
-faults u v m found hs big n p = cond u (cond (not v) (Some (BadProvenanceBox p)) (cond (not m) None (cond found (Some (TwoStores p)) (cond (not hs) (Some (BadProvenanceBox p)) (cond big (Some (StoreTooLarge n)) None))))) None
+faults u v m found hs big n p =
+    cond u
+    (cond (not v) (Some (BadProvenanceBox p)) (cond (not m) None (cond found (Some (TwoStores p)) (cond (not hs) (Some (BadProvenanceBox p)) (cond big (Some (StoreTooLarge n)) None)))))
+    None
 
 -- a `uuid` box without a part in a store isn't of C2PA, or has version 0 and another purpose
-pub other_by : (u v m found hs big : Bool) (n : ℕ) → tests u v m found hs big n ≡ part.Other → (not u || (v && not m)) ≡ true
+pub other_by : (u v m found hs big : Bool) (n : ℕ) → tests u v m found hs big n ≡ part.Other
+    → (not u || (v && not m)) ≡ true
 other_by false v m found hs big n e = refl
 other_by true true false found hs big n e = refl
 other_by true false m found hs big n e = absurd (cc (e))
@@ -123,8 +139,9 @@ other_by true true true false false big n e = absurd (cc (e))
 other_by true true true false true true n e = absurd (cc (e))
 other_by true true true false true false n e = absurd (cc (e))
 
--- such a box fails no test
-pub other_fault : (u v m found hs big : Bool) (n p : ℕ) → (not u || (v && not m)) ≡ true → faults u v m found hs big n p ≡ None
+-- a `uuid` box that isn't of C2PA, or has version 0 and another purpose, fails no test
+pub other_fault : (u v m found hs big : Bool) (n p : ℕ) → (not u || (v && not m)) ≡ true
+    → faults u v m found hs big n p ≡ None
 other_fault false v m found hs big n p e = refl
 other_fault true true false found hs big n p e = refl
 other_fault true false m found hs big n p e = absurd (cc (e))
@@ -140,7 +157,8 @@ pub record Holder (u v m found hs big : Bool) (n t p : ℕ) : Type 0 where
   pub passes : faults u v m found hs big n p ≡ None
 
 -- a `uuid` box that holds a store passes all tests, and no store was found before it
-pub holds_by : (u v m found hs big : Bool) (n t p : ℕ) → tests u v m found hs big n ≡ part.Holds t → Holder u v m found hs big n t p
+pub holds_by : (u v m found hs big : Bool) (n t p : ℕ) → tests u v m found hs big n ≡ part.Holds t
+    → Holder u v m found hs big n t p
 holds_by true true true false true false n t p e = record { is = refl; first = refl; whole = refl; small = refl; len = let f : part.Holds n ≡ part.Holds t = e in cc (f); passes = refl }
 holds_by false v m found hs big n t p e = absurd (cc (e))
 holds_by true false m found hs big n t p e = absurd (cc (e))
@@ -150,7 +168,8 @@ holds_by true true true false false big n t p e = absurd (cc (e))
 holds_by true true true false true true n t p e = absurd (cc (e))
 
 -- a `uuid` box that isn't passed fails with the error that is told of it, at its start
-pub fails_by : (u v m found hs big : Bool) (n : ℕ) (r : RootBox) (q : Part) (e : MediaError) → tests u v m found hs big n ≡ q → FailsBy q r e → faults u v m found hs big n r.start ≡ Some e
+pub fails_by : (u v m found hs big : Bool) (n : ℕ) (r : RootBox) (q : Part) (e : MediaError)
+    → tests u v m found hs big n ≡ q → FailsBy q r e → faults u v m found hs big n r.start ≡ Some e
 fails_by u v m found hs big n r part.Other e t f = absurd f
 fails_by u v m found hs big n r (part.Holds k) e t f = absurd f
 fails_by true false m found hs big n r part.Bad e t f = ap Some (sym f)

@@ -54,7 +54,7 @@ box_refuses p rest e h =
     (bytes_eq (stated_kind rest) uuid_kind && ltb len (header + 16)) (Truncated (p + left)) (BadBox p) e
     (sym (file_by p rest) ∙ h))
 
--- so does the test of their number
+-- the test of the number of root boxes refuses the file
 root_refuses : (count p : ℕ) (rest : List ℕ) (e : MediaError) → root_fault count p rest ≡ Some e → Refuses e
 root_refuses count p rest e h = go (ltb count most_roots) refl
   where
@@ -63,12 +63,15 @@ root_refuses count p rest e h = go (ltb count most_roots) refl
     go false s = let many : Some TooManyBoxes ≡ Some e = sym (ap (λ (x : Bool). cond x (box_fault p rest) (Some TooManyBoxes)) s) ∙ h in let one : TooManyBoxes ≡ e = cc (many) in subst Refuses one (why.TooManyBoxes, most_roots, refl)
 
 -- a box passes, and isn't one too many
-root_passes : (count p : ℕ) (rest : List ℕ) → root_fault count p rest ≡ None → (count < most_roots) × (box_fault p rest ≡ None)
+root_passes : (count p : ℕ) (rest : List ℕ) → root_fault count p rest ≡ None
+    → (count < most_roots) × (box_fault p rest ≡ None)
 root_passes count p rest h = go (ltb count most_roots) refl
   where
     go : (t : Bool) → ltb count most_roots ≡ t → (count < most_roots) × (box_fault p rest ≡ None)
-    go true s = (ltb-true count most_roots s, sym (ap (λ (x : Bool). cond x (box_fault p rest) (Some TooManyBoxes)) s) ∙ h)
-    go false s = absurd (let many = sym (ap (λ (x : Bool). cond x (box_fault p rest) (Some TooManyBoxes)) s) ∙ h in cc (many))
+    go true s =
+        (ltb-true count most_roots s, sym (ap (λ (x : Bool). cond x (box_fault p rest) (Some TooManyBoxes)) s) ∙ h)
+    go false s =
+        absurd (let many = sym (ap (λ (x : Bool). cond x (box_fault p rest) (Some TooManyBoxes)) s) ∙ h in cc (many))
 
 -- boxes that say their sizes are a list of boxes
 sized_forms : (bs : List Box) → AllByRecursion IsSizedBox bs → AreBoxForms bs
@@ -92,11 +95,15 @@ GoesOn file before rest =
     → length (before ++ c ∷ []) ≤ most_roots → (rest ≡ box_bytes c ++ tail) × IsSizedBox c → RootsOr file
 
 -- one box more
-bytes_more : (file : List ℕ) (before : List Box) (c : Box) (rest tail : List ℕ) → file ≡ flat_map box_bytes before ++ rest → rest ≡ box_bytes c ++ tail → file ≡ flat_map box_bytes (before ++ c ∷ []) ++ tail
+bytes_more : (file : List ℕ) (before : List Box) (c : Box) (rest tail : List ℕ)
+    → file ≡ flat_map box_bytes before ++ rest → rest ≡ box_bytes c ++ tail
+    → file ≡ flat_map box_bytes (before ++ c ∷ []) ++ tail
 bytes_more file before c rest tail e f =
     let one : flat_map box_bytes (c ∷ []) ≡ box_bytes c = append-nil (box_bytes c) in
-    let all : flat_map box_bytes (before ++ c ∷ []) ≡ flat_map box_bytes before ++ box_bytes c = flat_map-append box_bytes before (c ∷ []) ∙ ap (λ (ys : List ℕ). flat_map box_bytes before ++ ys) one in
-    e ∙ ap (λ (ys : List ℕ). flat_map box_bytes before ++ ys) f ∙ sym (append_assoc (flat_map box_bytes before) (box_bytes c) tail) ∙ ap (λ (xs : List ℕ). xs ++ tail) (sym all)
+    let all : flat_map box_bytes (before ++ c ∷ []) ≡ flat_map box_bytes before ++ box_bytes c =
+    flat_map-append box_bytes before (c ∷ []) ∙ ap (λ (ys : List ℕ). flat_map box_bytes before ++ ys) one in
+    e ∙ ap (λ (ys : List ℕ). flat_map box_bytes before ++ ys) f
+    ∙ sym (append_assoc (flat_map box_bytes before) (box_bytes c) tail) ∙ ap (λ (xs : List ℕ). xs ++ tail) (sym all)
 
 -- a box has its header
 least : (b : Box) → IsBox b → 8 ≤ length (box_bytes b)
@@ -112,7 +119,9 @@ roots_walk : (file : List ℕ) → length file < 2 ^ 62 → begins_bmff file ≡
     → (n : ℕ) (before : List Box) (rest : List ℕ) → AreBytes rest → length rest ≤ n → length rest < 2 ^ 62
     → AllByRecursion IsSizedBox before → length before ≤ most_roots → file ≡ flat_map box_bytes before ++ rest
     → RootsOr file
-roots_walk file fits begins n before [] bytes enough small sized few e = inl (before, record { fits = fits; begins = begins; bytes = e ∙ append-nil (flat_map box_bytes before); forms = sized_forms before sized; few = few })
+roots_walk file fits begins n before [] bytes enough small sized few e =
+    inl
+    (before, record { fits = fits; begins = begins; bytes = e ∙ append-nil (flat_map box_bytes before); forms = sized_forms before sized; few = few })
 roots_walk file fits begins zero before (x ∷ xs) bytes enough small sized few e = absurd (omega arith)
 roots_walk file fits begins (suc n) before (x ∷ xs) bytes enough small sized few e =
     by (root_fault (length before) (boxes_len before) (x ∷ xs)) refl
@@ -120,11 +129,14 @@ roots_walk file fits begins (suc n) before (x ∷ xs) bytes enough small sized f
   where
     by : (fault : Option MediaError) → root_fault (length before) (boxes_len before) (x ∷ xs) ≡ fault
         → GoesOn file before (x ∷ xs) → RootsOr file
-    by (Some f) h go = inr (f, record { before = before; rest = x ∷ xs; bytes = e; sized = sized; few = few; more = omega arith; fails = h }, root_refuses (length before) (boxes_len before) (x ∷ xs) f h)
+    by (Some f) h go =
+        inr
+        (f, record { before = before; rest = x ∷ xs; bytes = e; sized = sized; few = few; more = omega arith; fails = h }, root_refuses (length before) (boxes_len before) (x ∷ xs) f h)
     by None h go =
         let passes = root_passes (length before) (boxes_len before) (x ∷ xs) h in
         let c : FirstOf (x ∷ xs) = box_there (boxes_len before) (x ∷ xs) bytes (omega (arith, small)) passes.1 in
-        let count : length (before ++ c.box ∷ []) ≤ most_roots = omega (arith, length-append before (c.box ∷ []), passes.0) in
+        let count : length (before ++ c.box ∷ []) ≤ most_roots =
+        omega (arith, length-append before (c.box ∷ []), passes.0) in
         last_or (stated_size (x ∷ xs) == 0) refl c count go
       where
         last_or : (t : Bool) → (stated_size (x ∷ xs) == 0) ≡ t → (c : FirstOf (x ∷ xs))
@@ -137,38 +149,58 @@ roots_walk file fits begins (suc n) before (x ∷ xs) bytes enough small sized f
               record {
                 fits = fits;
                 begins = begins;
-                bytes = bytes_more file before c.box (x ∷ xs) [] e (c.bytes ∙ ap (λ (ys : List ℕ). box_bytes c.box ++ ys) none) ∙ append-nil (flat_map box_bytes (before ++ c.box ∷ []));
+                bytes =
+                    bytes_more file before c.box (x ∷ xs) [] e
+                    (c.bytes ∙ ap (λ (ys : List ℕ). box_bytes c.box ++ ys) none)
+                    ∙ append-nil (flat_map box_bytes (before ++ c.box ∷ []));
                 forms = forms_more before c.box sized c.is_box;
                 few = count;
               },
             )
         last_or false t c count go =
-            let size : length (x ∷ xs) ≡ length (box_bytes c.box) + length (drop (stated_len (x ∷ xs)) (x ∷ xs)) = ap length c.bytes ∙ length-append (box_bytes c.box) (drop (stated_len (x ∷ xs)) (x ∷ xs)) in
-            go c.box (drop (stated_len (x ∷ xs)) (x ∷ xs)) (bytes-drop (stated_len (x ∷ xs)) (x ∷ xs) bytes) (omega (arith, size, least c.box c.is_box)) count (c.bytes, record { is_box = c.is_box; sized = c.end_is ∙ t })
+            let size : length (x ∷ xs) ≡ length (box_bytes c.box) + length (drop (stated_len (x ∷ xs)) (x ∷ xs)) =
+            ap length c.bytes ∙ length-append (box_bytes c.box) (drop (stated_len (x ∷ xs)) (x ∷ xs)) in
+            go c.box (drop (stated_len (x ∷ xs)) (x ∷ xs)) (bytes-drop (stated_len (x ∷ xs)) (x ∷ xs) bytes)
+            (omega (arith, size, least c.box c.is_box)) count
+            (c.bytes, record { is_box = c.is_box; sized = c.end_is ∙ t })
 
 -- ---- the store
 
 -- what was found among root boxes, or the first test that fails
 abbrev FoundOr : List ℕ → List Box → Type 0
-FoundOr file roots = ((found : Option Found) × Searched roots found) ⊎ ((e : MediaError) × ProvenanceFault file e × Refuses e)
+FoundOr file roots =
+    ((found : Option Found) × Searched roots found) ⊎ ((e : MediaError) × ProvenanceFault file e × Refuses e)
 
 -- where the first root boxes pass the search, all of them do, or a C2PA box among the others fails
-scan : (file : List ℕ) (roots : List Box) → HasRoots file roots → (after before : List Box) (found : Option Found) → Searched before found → roots ≡ before ++ after → FoundOr file roots
-scan file roots has [] before found s e = inl (found, subst (λ (bs : List Box). Searched bs found) (sym (e ∙ append-nil before)) s)
+scan : (file : List ℕ) (roots : List Box) → HasRoots file roots → (after before : List Box) (found : Option Found)
+    → Searched before found → roots ≡ before ++ after → FoundOr file roots
+scan file roots has [] before found s e =
+    inl (found, subst (λ (bs : List Box). Searched bs found) (sym (e ∙ append-nil before)) s)
 scan file roots has (b ∷ bs) before found s e = by (bytes_eq b.kind uuid_kind) refl (payload_part (is_some found) b.payload) refl (λ new t. scan file roots has bs (before ++ b ∷ []) new t (e ∙ sym (append_assoc before (b ∷ []) bs)))
   where
     row : RootBox
     row = row_of (record { at = boxes_len before; box = b })
 
-    by : (u : Bool) → bytes_eq b.kind uuid_kind ≡ u → (q : Part) → payload_part (is_some found) b.payload ≡ q → ((new : Option Found) → Searched (before ++ b ∷ []) new → FoundOr file roots) → FoundOr file roots
+    by : (u : Bool) → bytes_eq b.kind uuid_kind ≡ u → (q : Part) → payload_part (is_some found) b.payload ≡ q
+        → ((new : Option Found) → Searched (before ++ b ∷ []) new → FoundOr file roots) → FoundOr file roots
     by false u q p go = go found (searched_not before b found s u)
-    by true u part.Other p go = go found (searched_uuid before b row found found s u refl refl (subst (λ (x : Part). StepsBy x row b.payload found found) (sym p) refl))
+    by true u part.Other p go =
+        go found
+        (searched_uuid before b row found found s u refl refl (subst (λ (x : Part). StepsBy x row b.payload found found) (sym p) refl))
     by true u (part.Holds n) p go =
-        let new : Option Found = Some (record { start = row.start; length = row.length; store = take n (drop 37 b.payload) }) in
-        go new (searched_uuid before b row found new s u refl refl (subst (λ (x : Part). StepsBy x row b.payload found new) (sym p) refl))
-    by true u part.Bad p go = inr (BadProvenanceBox row.start, searched_fails file roots before bs b row found (BadProvenanceBox row.start) has e s u refl (subst (λ (x : Part). FailsBy x row (BadProvenanceBox row.start)) (sym p) refl), (why.BadProvenanceBox, row.start, refl))
-    by true u part.Second p go = inr (TwoStores row.start, searched_fails file roots before bs b row found (TwoStores row.start) has e s u refl (subst (λ (x : Part). FailsBy x row (TwoStores row.start)) (sym p) refl), (why.TwoStores, row.start, refl))
-    by true u (part.TooLarge n) p go = inr (StoreTooLarge n, searched_fails file roots before bs b row found (StoreTooLarge n) has e s u refl (subst (λ (x : Part). FailsBy x row (StoreTooLarge n)) (sym p) refl), (why.StoreTooLarge, n, refl))
+        let new : Option Found =
+        Some (record { start = row.start; length = row.length; store = take n (drop 37 b.payload) }) in
+        go new
+        (searched_uuid before b row found new s u refl refl (subst (λ (x : Part). StepsBy x row b.payload found new) (sym p) refl))
+    by true u part.Bad p go =
+        inr
+        (BadProvenanceBox row.start, searched_fails file roots before bs b row found (BadProvenanceBox row.start) has e s u refl (subst (λ (x : Part). FailsBy x row (BadProvenanceBox row.start)) (sym p) refl), (why.BadProvenanceBox, row.start, refl))
+    by true u part.Second p go =
+        inr
+        (TwoStores row.start, searched_fails file roots before bs b row found (TwoStores row.start) has e s u refl (subst (λ (x : Part). FailsBy x row (TwoStores row.start)) (sym p) refl), (why.TwoStores, row.start, refl))
+    by true u (part.TooLarge n) p go =
+        inr
+        (StoreTooLarge n, searched_fails file roots before bs b row found (StoreTooLarge n) has e s u refl (subst (λ (x : Part). FailsBy x row (StoreTooLarge n)) (sym p) refl), (why.StoreTooLarge, n, refl))
 
 -- ---- the file
 
@@ -177,9 +209,11 @@ refused_so : (file : List ℕ) (e : MediaError) → FirstBmffFault file e → Re
 refused_so file e f r = (refused r.0 r.1, (e, f, r.2))
 
 -- a file whose root boxes are all searched has the store that was found, or none
-stored : (file : List ℕ) (roots : List Box) → HasRoots file roots → (found : Option Found) → Searched roots found → (v : Located) × IsBmffLocated file v
+stored : (file : List ℕ) (roots : List Box) → HasRoots file roots → (found : Option Found) → Searched roots found
+    → (v : Located) × IsBmffLocated file v
 stored file roots has None s = (absent, record { roots = roots; has_roots = has; none = s.finds })
-stored file roots has (Some f) s = (here f.start f.length f.store, record { roots = roots; has_roots = has; holds = s.finds })
+stored file roots has (Some f) s =
+    (here f.start f.length f.store, record { roots = roots; has_roots = has; holds = s.finds })
 
 -- each list of bytes is refused, has no store, or has a store in one range
 pub some_outcome : (file : List ℕ) → AreBytes file → (v : Located) × IsBmffLocated file v
@@ -187,8 +221,11 @@ some_outcome file bytes = ⊎_elim (λ fits. begin fits (begins_bmff file) refl)
   where
     among : length file < 2 ^ 62 → begins_bmff file ≡ true → RootsOr file → (v : Located) × IsBmffLocated file v
     among fits b (inr f) = refused_so file f.0 (root f.0 fits b f.1) f.2
-    among fits b (inl r) = ⊎_elim (λ s. stored file r.0 r.1 s.0 s.1) (λ p. refused_so file p.0 (provenance p.0 p.1) p.2) (scan file r.0 r.1 r.0 [] None searched_none refl)
+    among fits b (inl r) =
+        ⊎_elim (λ s. stored file r.0 r.1 s.0 s.1) (λ p. refused_so file p.0 (provenance p.0 p.1) p.2)
+        (scan file r.0 r.1 r.0 [] None searched_none refl)
 
     begin : length file < 2 ^ 62 → (b : Bool) → begins_bmff file ≡ b → (v : Located) × IsBmffLocated file v
-    begin fits true b = among fits b (roots_walk file fits b (length file) [] file bytes (omega arith) fits tt (omega arith) refl)
+    begin fits true b =
+        among fits b (roots_walk file fits b (length file) [] file bytes (omega arith) fits tt (omega arith) refl)
     begin fits false b = refused_so file NotMedia (not_media fits b) (why.NotMedia, 0, refl)

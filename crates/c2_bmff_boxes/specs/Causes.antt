@@ -6,16 +6,16 @@ use Rattle.c2_base.specs.declared.media.MediaError.{MediaError}
 use Rattle.c2_base.specs.declared.media.MediaError.TheVariants.{NotMedia, FileTooLarge, Truncated, TwoStores, BadBox, BadProvenanceBox, StoreTooLarge, TooManyBoxes, ReadFault, NoMemory}
 
 -- a fault comes where the source's count rose, and other errors but want of memory leave the count
-abbrev pub IsCaused : ℕ → ℕ → MediaError → Type 0
-IsCaused before now ReadFault = Rose before now
-IsCaused before now NoMemory = ⊤
-IsCaused before now e = now ≡ before
+abbrev pub IsBmffCaused : ℕ → ℕ → MediaError → Type 0
+IsBmffCaused before now ReadFault = Rose before now
+IsBmffCaused before now NoMemory = ⊤
+IsBmffCaused before now e = now ≡ before
 
 -- this holds, unless the source failed or memory ran out
-abbrev pub OrOutside : MediaError → Type 0 → Type 0
-OrOutside ReadFault claim = ⊤
-OrOutside NoMemory claim = ⊤
-OrOutside e claim = claim
+abbrev pub OrBmffFault : MediaError → Type 0 → Type 0
+OrBmffFault ReadFault claim = ⊤
+OrBmffFault NoMemory claim = ⊤
+OrBmffFault e claim = claim
 
 -- The cause of an error where root boxes are read, of a source of `len` bytes whose count of faults went from `before` to `now`: a fault
 -- comes where the count rose. A refusal leaves it; its number is the length, or a place in the source; and it is one of the tests on root
@@ -32,7 +32,8 @@ IsRootsCause len before now TooManyBoxes =
     (8 * MAX_ROOT_BOXES < len) × (len < FILE_LEN_LIMIT) × (now ≡ before)
 IsRootsCause len before now e = ⊥
 
--- The same where a store is looked for among root boxes: the number of a refusal is a place in the source, or the length of a store that is
+-- The cause of an error where a store is looked for among root boxes, of a source of `len` bytes whose count of faults went from `before`
+-- to `now`: a fault comes where the count rose. A refusal leaves it; its number is a place in the source, or the length of a store that is
 -- too large and ends in the source; and it is one of the tests on C2PA boxes.
 abbrev pub IsStoreCause : ℕ → ℕ → ℕ → MediaError → Type 0
 IsStoreCause len before now ReadFault = Rose before now

@@ -37,7 +37,7 @@ abbrev pub IsChildHead : List ℕ → Option BoxHead → Type 0
 IsChildHead rest None = is_child rest ≡ false
 IsChildHead rest (Some h) = IsHead 0 rest h × (h.to_end ≡ false)
 
--- it ends in `left` bytes
+-- the box of this header ends within `left` bytes
 abbrev pub IsHeadWithin : ℕ → BoxHead → Type 0
 IsHeadWithin left h = (8 ≤ h.header) × (h.length ≤ left) × (h.header ≤ h.length)
 

@@ -43,7 +43,7 @@ abbrev pub sized_part : Option ℕ → Part
 sized_part None = part.Bad
 sized_part (Some n) = if nat_lt most_store_bytes n then part.TooLarge n else part.Holds n
 
--- the same as `payload_part` by the first 53 of `len` bytes of the payload
+-- what a `uuid` box with a payload of `len` bytes is by the first 53 of them, where a store was found before or not
 unfoldable pub first_part : Bool → ℕ → List ℕ → Part
 first_part found len bytes =
     if not (bytes_eq (take 16 bytes) c2pa_user_type) then part.Other

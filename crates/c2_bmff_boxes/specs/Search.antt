@@ -8,7 +8,7 @@ use Rattle.c2_base.specs.declared.media.MediaError.{MediaError}
 use Rattle.c2_base.specs.declared.media.MediaError.TheVariants.{TwoStores, BadProvenanceBox, StoreTooLarge}
 use Rattle.c2_spec.specs.Bmff.Boxes.{Box, HasRoots}
 use Rattle.c2_spec.specs.Bmff.Store.{is_other_box, AllRootsPass, HoldsBmffStore, HasBmffStore, HasNoBmffStore, ProvenanceFault}
-use Rattle.c2_bmff_boxes.specs.Causes.{OrOutside}
+use Rattle.c2_bmff_boxes.specs.Causes.{OrBmffFault}
 use Rattle.c2_bmff_rows.specs.Rows.{rows_of}
 use Rattle.c2_bmff_boxes.specs.declared.provenance.Part.{Part}
 use Rattle.c2_bmff_boxes.specs.declared.provenance.Part.TheVariants as part
@@ -18,7 +18,7 @@ use Rattle.c2_bmff_rows.specs.declared.row.RootBox.{RootBox}
 abbrev pub IsStoreOr : List ℕ → Result (Option Found) MediaError → Type 0
 IsStoreOr file (Ok None) = HasNoBmffStore file
 IsStoreOr file (Ok (Some f)) = HasBmffStore file f.start f.length f.store
-IsStoreOr file (Err e) = OrOutside e (ProvenanceFault file e)
+IsStoreOr file (Err e) = OrBmffFault e (ProvenanceFault file e)
 
 -- what was found ends in a source of `len` bytes, and its store isn't too large
 pub record IsFoundWithin (len : ℕ) (found : Found) : Type 0 where
@@ -57,7 +57,7 @@ pub record Searched (boxes : List Box) (found : Option Found) : Type 0 where
   pub passing : AllRootsPass boxes
   pub finds : Finds boxes found
 
--- the same of the first `n` root boxes of a file with these rows
+-- where these rows are those of the root boxes of the file, the first `n` of the boxes pass, and this was found among them
 abbrev pub SearchedTo : List ℕ → List RootBox → ℕ → Option Found → Type 0
 SearchedTo file rows n found =
     (boxes : List Box) → HasRoots file boxes → rows ≡ rows_of boxes → Searched (take n boxes) found

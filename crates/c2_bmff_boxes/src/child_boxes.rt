@@ -3,7 +3,7 @@ ghost use Rattle.std.specs.Prelude.{◌≡◌, ◌+◌, ◌≤◌, take, drop, A
 ghost use Rattle.std.specs.Option.{ForSome};
 ghost use Rattle.c2_base.specs.Causes.{HasCause};
 ghost use Rattle.c2_base.specs.Source.{ReadsSource, StaysSource};
-ghost use Rattle.c2_bmff_boxes.specs.Causes.{IsCaused, OrOutside};
+ghost use Rattle.c2_bmff_boxes.specs.Causes.{IsBmffCaused, OrBmffFault};
 ghost use Rattle.c2_bmff_boxes.specs.Children.{IsChildHead, IsHeadWithin, IsListOf, part_between, rows_between, rows_len};
 ghost use Rattle.c2_bmff_boxes.specs.Roots.{FillSource};
 ghost use Rattle.c2_bmff_rows.specs.Rows.{IsRowWithin};
@@ -53,8 +53,8 @@ fn list_between<S: Source>(
     ensures fill { IfOk result (λ l. IfSome l (λ v. FillSource end start v.items)) }
     ensures stays { StaysSource S.len S.known S.faults source.old source.new }
     ensures count { OnOk result (S.faults source.new ≡ S.faults source.old) }
-    ensures cause { IfErr result (IsCaused (S.faults source.old) (S.faults source.new)) }
-    ensures outside { IfErr result (λ e. OrOutside e ⊥) }
+    ensures cause { IfErr result (IsBmffCaused (S.faults source.old) (S.faults source.new)) }
+    ensures outside { IfErr result (λ e. OrBmffFault e ⊥) }
 {
     let mut rows = Vec::new(alloc);
     let len = end - start;
@@ -85,8 +85,8 @@ pub fn boxes_between<S: Source>(
     ensures rows { IfOk result (λ l. ForSome (S.known source.old) (λ file.
         l ≡ rows_between file start end)) }
     ensures fill { IfOk result (λ l. IfSome l (FillSource end start)) }
-    ensures reads { ReadsSource S.len S.known S.faults IsCaused source.old source.new result }
-    ensures outside { IfErr result (λ e. OrOutside e ⊥) }
+    ensures reads { ReadsSource S.len S.known S.faults IsBmffCaused source.old source.new result }
+    ensures outside { IfErr result (λ e. OrBmffFault e ⊥) }
 {
     // Matched and not handed up by `?`: each way out has clauses of its own.
     match list_between(alloc, source, start, end) {
@@ -111,8 +111,8 @@ pub fn children<S: Source>(
     ensures total { IfOk result (λ rows. rows_len rows.items + parent.header ≤ parent.length) }
     ensures stays { StaysSource S.len S.known S.faults source.old source.new }
     ensures count { OnOk result (S.faults source.new ≡ S.faults source.old) }
-    ensures cause { IfErr result (IsCaused (S.faults source.old) (S.faults source.new)) }
-    ensures outside { IfErr result (λ e. OrOutside e ⊥) }
+    ensures cause { IfErr result (IsBmffCaused (S.faults source.old) (S.faults source.new)) }
+    ensures outside { IfErr result (λ e. OrBmffFault e ⊥) }
 {
     let start = parent.start + parent.header;
     let end = parent.start + parent.length;

@@ -119,7 +119,7 @@ fn lacks_user_type(head: BoxHead) -> bool
     head.kind == UUID && head.length - head.header < 16
 }
 
-// The same of the first 16 of the bytes that are left, where a `uuid` box also has room for its user type.
+// The header of the box at the front of a file's last `left` bytes, by the first 16 of them; a `uuid` box also has room for its user type.
 pub(crate) fn box_head(bytes: &[u8], left: u64) -> Result<BoxHead, HeadError>
     requires first { length bytes.now ≡ min 16 left }
     ensures ok { IfOk result (IsHeader left bytes.now) }

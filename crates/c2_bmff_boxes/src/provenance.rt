@@ -3,7 +3,7 @@ ghost use Rattle.std.specs.Prelude.{◌≡◌, ◌+◌, ◌-◌, ◌<◌, ◌≤
 ghost use Rattle.std.specs.Option.{ForSome};
 ghost use Rattle.c2_base.specs.Causes.{HasCause};
 ghost use Rattle.c2_base.specs.Source.{StaysSource};
-ghost use Rattle.c2_bmff_boxes.specs.Causes.{IsCaused, IsStoreCause, OrOutside};
+ghost use Rattle.c2_bmff_boxes.specs.Causes.{IsBmffCaused, IsStoreCause, OrBmffFault};
 ghost use Rattle.c2_bmff_boxes.specs.Provenance.{first_part, payload_part, store_by};
 ghost use Rattle.c2_bmff_rows.specs.Rows.{payload_at, IsRowWithin, IsBoxWithin};
 ghost use Rattle.c2_bmff_boxes.specs.Roots.{AreRootsOf};
@@ -144,8 +144,8 @@ fn store_at<S: Source>(
     ensures length { IfOk result (λ b. length b ≡ total) }
     ensures stays { StaysSource S.len S.known S.faults source.old source.new }
     ensures count { OnOk result (S.faults source.new ≡ S.faults source.old) }
-    ensures cause { IfErr result (IsCaused (S.faults source.old) (S.faults source.new)) }
-    ensures outside { IfErr result (λ e. OrOutside e ⊥) }
+    ensures cause { IfErr result (IsBmffCaused (S.faults source.old) (S.faults source.new)) }
+    ensures outside { IfErr result (λ e. OrBmffFault e ⊥) }
 {
     let mut bytes = match vec![in alloc; 0; total as usize] {
         Ok(bytes) => bytes,
@@ -170,7 +170,7 @@ fn step<S: Source>(
         StepsBy (payload_part (is_some found.old) (payload_at file row)) row
         (payload_at file row) found.old found.new)) }
     ensures fails { IfErr result (λ e. ForSome (S.known source.old) (λ file.
-        OrOutside e (FailsBy (payload_part (is_some found.old) (payload_at file row)) row e))) }
+        OrBmffFault e (FailsBy (payload_part (is_some found.old) (payload_at file row)) row e))) }
     ensures after { IfSome found.new (IsFoundWithin (S.len source.old)) }
     ensures stays { StaysSource S.len S.known S.faults source.old source.new }
     ensures count { OnOk result (S.faults source.new ≡ S.faults source.old) }

@@ -2,7 +2,7 @@
 ghost use Rattle.std.specs.Prelude.{◌≡◌, ◌^◌, ◌<◌, All, OnOk, IfOk, IfErr};
 ghost use Rattle.std.specs.Option.{ForSome};
 ghost use Rattle.c2_base.specs.Source.{StaysSource};
-ghost use Rattle.c2_bmff_boxes.specs.Causes.{IsRootsCause, OrOutside};
+ghost use Rattle.c2_bmff_boxes.specs.Causes.{IsRootsCause, OrBmffFault};
 ghost use Rattle.c2_bmff_boxes.specs.Roots.{AreRootsOf, FillSource};
 ghost use Rattle.c2_bmff_rows.specs.Rows.{IsBoxWithin};
 ghost use Rattle.c2_bmff_rows.specs.Faults.{FirstRootsFault};
@@ -22,7 +22,7 @@ pub fn roots<S: Source>(alloc: Global, source: &mut S) -> Result<Roots, MediaErr
     ensures found { IfOk result
         (λ roots. ForSome (S.known source.old) (λ file. AreRootsOf file roots)) }
     ensures refused { IfErr result
-        (λ e. ForSome (S.known source.old) (λ file. OrOutside e (FirstRootsFault file e))) }
+        (λ e. ForSome (S.known source.old) (λ file. OrBmffFault e (FirstRootsFault file e))) }
     ensures inside { IfOk result (All (IsBoxWithin (S.len source.old))) }
     ensures fill { IfOk result (FillSource (S.len source.old) 0) }
     ensures small { OnOk result (S.len source.old < 2 ^ 62) }

@@ -3,7 +3,7 @@ ghost use Rattle.std.specs.Prelude.{◌≡◌, ◌++◌, [], ◌∷◌, ◌+◌,
 ghost use Rattle.std.specs.Option.{ForSome};
 ghost use Rattle.c2_base.specs.Causes.{HasCause};
 ghost use Rattle.c2_base.specs.Source.{ReadsSource, StaysSource};
-ghost use Rattle.c2_bmff_boxes.specs.Causes.{IsRootsCause, OrOutside};
+ghost use Rattle.c2_bmff_boxes.specs.Causes.{IsRootsCause, OrBmffFault};
 ghost use Rattle.c2_bmff_boxes.specs.Heads.{IsHeadOr};
 ghost use Rattle.c2_bmff_boxes.specs.Roots.{AreRootsOf, FillFile, FillSource, row_at};
 ghost use Rattle.c2_bmff_rows.specs.Rows.{HasHeader};
@@ -135,7 +135,7 @@ pub(crate) fn walk<S: Source>(
     ensures walked { IfOk result
         (λ rows. ForSome (S.known source.old) (λ file. AreRootsOf file rows.items)) }
     ensures fault { IfErr result
-        (λ e. ForSome (S.known source.old) (λ file. OrOutside e (RootFault file e))) }
+        (λ e. ForSome (S.known source.old) (λ file. OrBmffFault e (RootFault file e))) }
     ensures fill { IfOk result (λ rows. FillSource size 0 rows.items) }
     ensures reads { ReadsSource S.len S.known S.faults (IsRootsCause (S.len source.old))
         source.old source.new result }

@@ -15,7 +15,8 @@ boxed kind payload = record { form = short; kind = kind; payload = payload }
 -- the boxes on the path around a list of boxes
 abbrev around : List ℕ → Box
 around siblings =
-    boxed (codes "moov") (box_bytes (boxed (codes "trak") (box_bytes (boxed (codes "mdia") (box_bytes (boxed (codes "minf") (box_bytes (boxed (codes "stbl") siblings))))))))
+    boxed (codes "moov")
+    (box_bytes (boxed (codes "trak") (box_bytes (boxed (codes "mdia") (box_bytes (boxed (codes "minf") (box_bytes (boxed (codes "stbl") siblings))))))))
 
 -- the table with these bytes after its count and before the field
 abbrev table : List ℕ → List ℕ → List ℕ
@@ -26,7 +27,7 @@ abbrev film : List ℕ → List Box
 film siblings =
     boxed (codes "ftyp") (codes "isom" ++ 0 ∷ 0 ∷ 0 ∷ 0 ∷ []) ∷ around siblings ∷ boxed (codes "mdat") (0x41 ∷ []) ∷ []
 
--- its bytes
+-- the bytes of boxes
 abbrev bytes_of : List Box → List ℕ
 bytes_of [] = []
 bytes_of (b ∷ bs) = box_bytes b ++ bytes_of bs
@@ -39,12 +40,12 @@ one = 0 ∷ 0 ∷ 0 ∷ 1 ∷ []
 abbrev film_q : List ℕ
 film_q = table one (0 ∷ 0 ∷ 0 ∷ 84 ∷ [])
 
--- it has one table, of one field at 72
+-- the film with a field for 84 has one table, of one field at 72
 q_tables : chunk_tables (bytes_of (film film_q)) (rows_of (film film_q)) ≡ record { first = 72; count = 1; wide = false } ∷ []
 unfolding chunk_tables box_fault
 q_tables = refl
 
--- of which nothing is refused
+-- nothing is refused of the film with a field for 84
 q_none : shift_refusals (bytes_of (film film_q)) (rows_of (film film_q)) ≡ []
 unfolding shift_refusals box_fault
 q_none = refl

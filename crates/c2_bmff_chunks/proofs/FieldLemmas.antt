@@ -21,7 +21,7 @@ pub number_len : (wide : Bool) (n : ℕ) → length (number_bytes wide n) ≡ fi
 number_len true n = refl
 number_len false n = refl
 
--- and bytes
+-- the bytes of a number in a field are bytes
 pub number_are : (wide : Bool) (n : ℕ) → AreBytes (number_bytes wide n)
 number_are true n zero = omega arith
 number_are true n (suc zero) = omega arith
@@ -48,7 +48,8 @@ abbrev pub number_in : Bool → List ℕ → ℕ
 number_in wide bytes = cond wide (from_be_bytes w64 bytes) (from_be_bytes w32 bytes)
 
 -- by the bytes of the field
-pub number_of : (wide : Bool) (file : List ℕ) (at : ℕ) → number_at wide file at ≡ number_in wide (take (field_len wide) (drop at file))
+pub number_of : (wide : Bool) (file : List ℕ) (at : ℕ)
+    → number_at wide file at ≡ number_in wide (take (field_len wide) (drop at file))
 number_of true file at = refl
 number_of false file at = refl
 
@@ -67,7 +68,8 @@ moved_fits wide from by v h = go (nat_le from v) (nat_lt (v + by) (field_limit w
     go false b e = h
 
 -- bytes of a field are those of its number
-pub number_told : (wide : Bool) (bytes : List ℕ) → AreBytes bytes → length bytes ≡ field_len wide → number_bytes wide (number_in wide bytes) ≡ bytes
+pub number_told : (wide : Bool) (bytes : List ℕ) → AreBytes bytes → length bytes ≡ field_len wide
+    → number_bytes wide (number_in wide bytes) ≡ bytes
 number_told true bytes h e = be_bytes_8 bytes (from_be_bytes w64 bytes) e h refl
 number_told false bytes h e = be_bytes_4 bytes (from_be_bytes w32 bytes) e h refl
 
@@ -97,18 +99,19 @@ fields_zero : (wide : Bool) → fields_len wide 0 ≡ 0
 fields_zero true = refl
 fields_zero false = refl
 
--- their bounds go up
+-- the bounds of fields that stand apart go up
 pub apart_ordered : (low high : ℕ) (fs : List Field) → FieldsApart low high fs → low ≤ high
 apart_ordered low high [] h = h
 apart_ordered low high (f ∷ fs) h = omega (arith, h.0, apart_ordered (f.at + field_len f.wide) high fs h.1)
 
--- and may be lower
+-- the lower bound of fields that stand apart may be lower
 apart_lower : (low low' high : ℕ) (fs : List Field) → low' ≤ low → FieldsApart low high fs → FieldsApart low' high fs
 apart_lower low low' high [] l h = omega (arith, l, h)
 apart_lower low low' high (f ∷ fs) l h = (omega (arith, l, h.0), h.1)
 
 -- fields behind others
-apart_append : (low mid high : ℕ) (fs gs : List Field) → FieldsApart low mid fs → FieldsApart mid high gs → FieldsApart low high (fs ++ gs)
+apart_append : (low mid high : ℕ) (fs gs : List Field) → FieldsApart low mid fs → FieldsApart mid high gs
+    → FieldsApart low high (fs ++ gs)
 apart_append low mid high [] gs h k = apart_lower mid low high gs h k
 apart_append low mid high (f ∷ fs) gs h k = (h.0, apart_append (f.at + field_len f.wide) mid high fs gs h.1 k)
 
@@ -116,47 +119,57 @@ apart_append low mid high (f ∷ fs) gs h k = (h.0, apart_append (f.at + field_l
 pub fields_apart : (wide : Bool) (at n : ℕ) → FieldsApart at (at + fields_len wide n) (fields_from wide at n)
 fields_apart wide at zero = omega (arith, fields_zero wide)
 fields_apart wide at (suc n) =
-    let e : at + field_len wide + fields_len wide n ≡ at + fields_len wide (suc n) = omega (arith, fields_more wide n) in
+    let e : at + field_len wide + fields_len wide n ≡ at + fields_len wide (suc n) =
+    omega (arith, fields_more wide n) in
     (omega arith, subst (λ k. FieldsApart (at + field_len wide) k (fields_from wide (at + field_len wide) n)) e (fields_apart wide (at + field_len wide) n))
 
--- so do those of tables that stand apart
+-- the fields of tables that stand apart stand apart
 pub tables_apart : (low high : ℕ) (ts : List ChunkTable) → StandApart low high ts → FieldsApart low high (all_fields ts)
 tables_apart low high [] h = h
 tables_apart low high (t ∷ ts) h =
     apart_append low (t.first + table_len t) high (fields_of t) (all_fields ts)
-    (apart_lower t.first low (t.first + table_len t) (fields_of t) h.0 (fields_apart t.wide t.first t.count)) (tables_apart (t.first + table_len t) high ts h.1)
+    (apart_lower t.first low (t.first + table_len t) (fields_of t) h.0 (fields_apart t.wide t.first t.count))
+    (tables_apart (t.first + table_len t) high ts h.1)
 
 -- ---- fields put over a list
 
 -- a list keeps its length
-pub with_len : (from by : ℕ) (file : List ℕ) (fs : List Field) (xs : List ℕ) → length (with_fields from by file fs xs) ≡ length xs
+pub with_len : (from by : ℕ) (file : List ℕ) (fs : List Field) (xs : List ℕ)
+    → length (with_fields from by file fs xs) ≡ length xs
 with_len from by file [] xs = refl
-with_len from by file (f ∷ fs) xs = with_len from by file fs (put_over f.at (moved_bytes from by file f) xs) ∙ put_len f.at (moved_bytes from by file f) xs
+with_len from by file (f ∷ fs) xs =
+    with_len from by file fs (put_over f.at (moved_bytes from by file f) xs)
+    ∙ put_len f.at (moved_bytes from by file f) xs
 
--- and stays bytes
-pub with_bytes : (from by : ℕ) (file : List ℕ) (fs : List Field) (xs : List ℕ) → AreBytes xs → AreBytes (with_fields from by file fs xs)
+-- a list of bytes stays one where fields are put into it
+pub with_bytes : (from by : ℕ) (file : List ℕ) (fs : List Field) (xs : List ℕ) → AreBytes xs
+    → AreBytes (with_fields from by file fs xs)
 with_bytes from by file [] xs h = h
 with_bytes from by file (f ∷ fs) xs h =
     with_bytes from by file fs (put_over f.at (moved_bytes from by file f) xs)
     (put_bytes f.at (moved_bytes from by file f) xs (number_are f.wide (moved f.wide from by (number_at f.wide file f.at))) h)
 
 -- a part of it
-pub with_part : (from by pos n : ℕ) (file : List ℕ) (fs : List Field) (xs : List ℕ) → take n (drop pos (with_fields from by file fs xs)) ≡ part_with from by pos file fs (take n (drop pos xs))
+pub with_part : (from by pos n : ℕ) (file : List ℕ) (fs : List Field) (xs : List ℕ)
+    → take n (drop pos (with_fields from by file fs xs)) ≡ part_with from by pos file fs (take n (drop pos xs))
 with_part from by pos n file [] xs = refl
 with_part from by pos n file (f ∷ fs) xs =
     with_part from by pos n file fs (put_over f.at (moved_bytes from by file f) xs)
     ∙ ap (part_with from by pos file fs) (put_part pos n f.at (moved_bytes from by file f) xs)
 
 -- fields behind a part leave it
-pub with_behind : (from by pos n low high : ℕ) (file : List ℕ) (fs : List Field) (xs : List ℕ) → FieldsApart low high fs → pos + n ≤ low
+pub with_behind : (from by pos n low high : ℕ) (file : List ℕ) (fs : List Field) (xs : List ℕ) → FieldsApart low high fs
+    → pos + n ≤ low
     → take n (drop pos (with_fields from by file fs xs)) ≡ take n (drop pos xs)
 with_behind from by pos n low high file [] xs h k = refl
 with_behind from by pos n low high file (f ∷ fs) xs h k =
-    with_behind from by pos n (f.at + field_len f.wide) high file fs (put_over f.at (moved_bytes from by file f) xs) h.1 (omega (arith, h.0, k))
+    with_behind from by pos n (f.at + field_len f.wide) high file fs (put_over f.at (moved_bytes from by file f) xs) h.1
+    (omega (arith, h.0, k))
     ∙ put_beside_left pos n f.at (moved_bytes from by file f) xs (omega (arith, h.0, k))
 
 -- a place that no field holds stays
-pub with_get : (from by : ℕ) (file : List ℕ) (fs : List Field) (xs : List ℕ) (i : ℕ) → ((f : Field) → Member f fs → Covers f i → ⊥)
+pub with_get : (from by : ℕ) (file : List ℕ) (fs : List Field) (xs : List ℕ) (i : ℕ)
+    → ((f : Field) → Member f fs → Covers f i → ⊥)
     → get_or (with_fields from by file fs xs) i 0 ≡ get_or xs i 0
 with_get from by file [] xs i free = refl
 with_get from by file (f ∷ fs) xs i free =
@@ -171,7 +184,8 @@ with_get from by file (f ∷ fs) xs i free =
     (cases_lt i f.at)
 
 -- a field among others stands between their bounds
-pub member_within : (low high : ℕ) (fs : List Field) (f : Field) → FieldsApart low high fs → Member f fs → (low ≤ f.at) × (f.at + field_len f.wide ≤ high)
+pub member_within : (low high : ℕ) (fs : List Field) (f : Field) → FieldsApart low high fs → Member f fs
+    → (low ≤ f.at) × (f.at + field_len f.wide ≤ high)
 member_within low high [] f h m = absurd m
 member_within low high (g ∷ gs) f h (inl e) =
     let up : g.at + field_len g.wide ≤ high = apart_ordered (g.at + field_len g.wide) high gs h.1 in
@@ -181,63 +195,79 @@ member_within low high (g ∷ gs) f h (inr m) =
     (omega (arith, h.0, more.0), more.1)
 
 -- a field that is put stands there
-pub with_here : (from by low high : ℕ) (file : List ℕ) (fs : List Field) (xs : List ℕ) (f : Field) → FieldsApart low high fs → high ≤ length xs → Member f fs
+pub with_here : (from by low high : ℕ) (file : List ℕ) (fs : List Field) (xs : List ℕ) (f : Field)
+    → FieldsApart low high fs → high ≤ length xs → Member f fs
     → take (field_len f.wide) (drop f.at (with_fields from by file fs xs)) ≡ moved_bytes from by file f
 with_here from by low high file [] xs f h k m = absurd m
 with_here from by low high file (g ∷ gs) xs f h k (inl e) =
-    subst (λ (x : Field). take (field_len x.wide) (drop x.at (with_fields from by file (g ∷ gs) xs)) ≡ moved_bytes from by file x) (sym e)
+    subst
+    (λ (x : Field). take (field_len x.wide) (drop x.at (with_fields from by file (g ∷ gs) xs)) ≡ moved_bytes from by file x)
+    (sym e)
     (let len : length (moved_bytes from by file g) ≡ field_len g.wide = moved_len from by file g in
     let up : g.at + field_len g.wide ≤ high = apart_ordered (g.at + field_len g.wide) high gs h.1 in
-    with_behind from by g.at (field_len g.wide) (g.at + field_len g.wide) high file gs (put_over g.at (moved_bytes from by file g) xs) h.1 (omega arith)
+    with_behind from by g.at (field_len g.wide) (g.at + field_len g.wide) high file gs
+    (put_over g.at (moved_bytes from by file g) xs) h.1 (omega arith)
     ∙ ap (λ n. take n (drop g.at (put_over g.at (moved_bytes from by file g) xs))) (sym len)
     ∙ put_here g.at (moved_bytes from by file g) xs (omega (arith, len, up, k)))
 with_here from by low high file (g ∷ gs) xs f h k (inr m) =
-    with_here from by (g.at + field_len g.wide) high file gs (put_over g.at (moved_bytes from by file g) xs) f h.1 (omega (arith, k, put_len g.at (moved_bytes from by file g) xs)) m
+    with_here from by (g.at + field_len g.wide) high file gs (put_over g.at (moved_bytes from by file g) xs) f h.1
+    (omega (arith, k, put_len g.at (moved_bytes from by file g) xs)) m
 
 -- ---- fields put over a part
 
 -- a part keeps its length
-pub part_len : (from by pos : ℕ) (file : List ℕ) (fs : List Field) (xs : List ℕ) → length (part_with from by pos file fs xs) ≡ length xs
+pub part_len : (from by pos : ℕ) (file : List ℕ) (fs : List Field) (xs : List ℕ)
+    → length (part_with from by pos file fs xs) ≡ length xs
 part_len from by pos file [] xs = refl
 part_len from by pos file (f ∷ fs) xs =
-    part_len from by pos file fs (put_over_from pos f.at (moved_bytes from by file f) xs) ∙ put_len (f.at - pos) (drop (pos - f.at) (moved_bytes from by file f)) xs
+    part_len from by pos file fs (put_over_from pos f.at (moved_bytes from by file f) xs)
+    ∙ put_len (f.at - pos) (drop (pos - f.at) (moved_bytes from by file f)) xs
 
 -- fields after others
-pub part_append : (from by pos : ℕ) (file : List ℕ) (fs gs : List Field) (xs : List ℕ) → part_with from by pos file (fs ++ gs) xs ≡ part_with from by pos file gs (part_with from by pos file fs xs)
+pub part_append : (from by pos : ℕ) (file : List ℕ) (fs gs : List Field) (xs : List ℕ)
+    → part_with from by pos file (fs ++ gs) xs ≡ part_with from by pos file gs (part_with from by pos file fs xs)
 part_append from by pos file [] gs xs = refl
-part_append from by pos file (f ∷ fs) gs xs = part_append from by pos file fs gs (put_over_from pos f.at (moved_bytes from by file f) xs)
+part_append from by pos file (f ∷ fs) gs xs =
+    part_append from by pos file fs gs (put_over_from pos f.at (moved_bytes from by file f) xs)
 
 -- fields that end before the part leave it
-pub part_before : (from by pos low high : ℕ) (file : List ℕ) (fs : List Field) (xs : List ℕ) → FieldsApart low high fs → high ≤ pos → part_with from by pos file fs xs ≡ xs
+pub part_before : (from by pos low high : ℕ) (file : List ℕ) (fs : List Field) (xs : List ℕ) → FieldsApart low high fs
+    → high ≤ pos → part_with from by pos file fs xs ≡ xs
 part_before from by pos low high file [] xs h k = refl
 part_before from by pos low high file (f ∷ fs) xs h k =
     let up : f.at + field_len f.wide ≤ high = apart_ordered (f.at + field_len f.wide) high fs h.1 in
-    ap (part_with from by pos file fs) (part_left pos f.at (moved_bytes from by file f) xs (omega (arith, up, k, moved_len from by file f)))
+    ap (part_with from by pos file fs)
+    (part_left pos f.at (moved_bytes from by file f) xs (omega (arith, up, k, moved_len from by file f)))
     ∙ part_before from by pos (f.at + field_len f.wide) high file fs xs h.1 k
 
--- and so do fields that begin behind it
-pub part_behind : (from by pos low high : ℕ) (file : List ℕ) (fs : List Field) (xs : List ℕ) → FieldsApart low high fs → pos + length xs ≤ low → part_with from by pos file fs xs ≡ xs
+-- fields that begin behind the part leave it
+pub part_behind : (from by pos low high : ℕ) (file : List ℕ) (fs : List Field) (xs : List ℕ) → FieldsApart low high fs
+    → pos + length xs ≤ low → part_with from by pos file fs xs ≡ xs
 part_behind from by pos low high file [] xs h k = refl
 part_behind from by pos low high file (f ∷ fs) xs h k =
     ap (part_with from by pos file fs) (part_right pos f.at (moved_bytes from by file f) xs (omega (arith, h.0, k)))
     ∙ part_behind from by pos (f.at + field_len f.wide) high file fs xs h.1 (omega (arith, h.0, k))
 
 -- so many fields are the first of them and those after
-pub fields_split : (wide : Bool) (at m n : ℕ) → fields_from wide at (m + n) ≡ fields_from wide at m ++ fields_from wide (at + fields_len wide m) n
+pub fields_split : (wide : Bool) (at m n : ℕ)
+    → fields_from wide at (m + n) ≡ fields_from wide at m ++ fields_from wide (at + fields_len wide m) n
 fields_split wide at zero n =
     let e : zero + n ≡ n = omega arith in
     let z : at ≡ at + fields_len wide 0 = omega (arith, fields_zero wide) in
     ap (fields_from wide at) e ∙ ap (λ k. fields_from wide k n) z
 fields_split wide at (suc m) n =
     let e : suc m + n ≡ suc (m + n) = omega arith in
-    let z : at + field_len wide + fields_len wide m ≡ at + fields_len wide (suc m) = omega (arith, fields_more wide m) in
-    ap (fields_from wide at) e ∙ ap (λ (xs : List Field). record { at = at; wide = wide } ∷ xs) (fields_split wide (at + field_len wide) m n ∙ ap (λ k. fields_from wide (at + field_len wide) m ++ fields_from wide k n) z)
+    let z : at + field_len wide + fields_len wide m ≡ at + fields_len wide (suc m) =
+    omega (arith, fields_more wide m) in
+    ap (fields_from wide at) e
+    ∙ ap (λ (xs : List Field). record { at = at; wide = wide } ∷ xs)
+    (fields_split wide (at + field_len wide) m n ∙ ap (λ k. fields_from wide (at + field_len wide) m ++ fields_from wide k n) z)
 
 -- the fields of tables that stand apart are those of the first and those of the others
 pub fields_first : (t : ChunkTable) (ts : List ChunkTable) → all_fields (t ∷ ts) ≡ fields_of t ++ all_fields ts
 fields_first t ts = refl
 
--- so are their bytes
+-- the bytes of so many fields are those of the first of them and of those after
 pub fields_split_len : (wide : Bool) (m n : ℕ) → fields_len wide (m + n) ≡ fields_len wide m + fields_len wide n
 fields_split_len true m n = omega arith
 fields_split_len false m n = omega arith

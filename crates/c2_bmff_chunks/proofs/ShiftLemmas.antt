@@ -31,7 +31,9 @@ some_shifted from by ts file bytes apart =
       size = with_len from by file fs file;
       bytes = all_bytes (shifted from by ts file) (with_bytes from by file fs file are);
       fields = λ f c.
-          number_of f.wide (shifted from by ts file) f.at ∙ ap (number_in f.wide) (with_here from by 0 (length file) file fs file f stand (omega arith) (to_member fs f c))
+          number_of f.wide (shifted from by ts file) f.at
+          ∙ ap (number_in f.wide)
+          (with_here from by 0 (length file) file fs file f stand (omega arith) (to_member fs f c))
           ∙ number_back f.wide (moved f.wide from by (number_at f.wide file f.at)) (moved_fits f.wide from by (number_at f.wide file f.at) (number_small f.wide file f.at are));
       others = λ i free. with_get from by file fs file i (λ f m. free f (from_member fs f m));
     }
@@ -39,7 +41,8 @@ some_shifted from by ts file bytes apart =
 -- ---- one
 
 -- some field holds a place, or none does
-held_or_not : (fs : List Field) (i : ℕ) → ((f : Field) × Member f fs × Covers f i) ⊎ ((f : Field) → Member f fs → Covers f i → ⊥)
+pub held_or_not : (fs : List Field) (i : ℕ)
+    → ((f : Field) × Member f fs × Covers f i) ⊎ ((f : Field) → Member f fs → Covers f i → ⊥)
 held_or_not [] i = inr (λ f m. absurd m)
 held_or_not (g ∷ gs) i =
     ⊎_elim
@@ -50,22 +53,30 @@ held_or_not (g ∷ gs) i =
     go : (Covers g i → ⊥) → ((f : Field) × Member f gs × Covers f i) ⊎ ((f : Field) → Member f gs → Covers f i → ⊥)
         → ((f : Field) × Member f (g ∷ gs) × Covers f i) ⊎ ((f : Field) → Member f (g ∷ gs) → Covers f i → ⊥)
     go not_here (inl h) = inl (h.0, inr h.1, h.2)
-    go not_here (inr none) = inr (λ f m c. ⊎_elim (λ (e : f ≡ g). not_here (subst (λ (x : Field). Covers x i) e c)) (λ (n : Member f gs). none f n c) m)
+    go not_here (inr none) =
+        inr
+        (λ f m c. ⊎_elim (λ (e : f ≡ g). not_here (subst (λ (x : Field). Covers x i) e c)) (λ (n : Member f gs). none f n c) m)
 
 -- two fields of bytes with one number have the same bytes
-same_field : (wide : Bool) (a b : List ℕ) (at : ℕ) → AreBytes a → AreBytes b → at + field_len wide ≤ length a → at + field_len wide ≤ length b
+same_field : (wide : Bool) (a b : List ℕ) (at : ℕ) → AreBytes a → AreBytes b → at + field_len wide ≤ length a
+    → at + field_len wide ≤ length b
     → number_at wide a at ≡ number_at wide b at → take (field_len wide) (drop at a) ≡ take (field_len wide) (drop at b)
 same_field wide a b at h k inside inside' e =
     let n : ℕ = field_len wide in
-    let left : number_bytes wide (number_in wide (take n (drop at a))) ≡ take n (drop at a) = number_told wide (take n (drop at a)) (bytes-take n (drop at a) (bytes-drop at a h)) (length-take-le n (drop at a) (omega (arith, inside, length-drop at a))) in
-    let right : number_bytes wide (number_in wide (take n (drop at b))) ≡ take n (drop at b) = number_told wide (take n (drop at b)) (bytes-take n (drop at b) (bytes-drop at b k)) (length-take-le n (drop at b) (omega (arith, inside', length-drop at b))) in
+    let left : number_bytes wide (number_in wide (take n (drop at a))) ≡ take n (drop at a) =
+    number_told wide (take n (drop at a)) (bytes-take n (drop at a) (bytes-drop at a h))
+    (length-take-le n (drop at a) (omega (arith, inside, length-drop at a))) in
+    let right : number_bytes wide (number_in wide (take n (drop at b))) ≡ take n (drop at b) =
+    number_told wide (take n (drop at b)) (bytes-take n (drop at b) (bytes-drop at b k))
+    (length-take-le n (drop at b) (omega (arith, inside', length-drop at b))) in
     sym left ∙ ap (number_bytes wide) (sym (number_of wide a at) ∙ e ∙ number_of wide b at) ∙ right
 
 -- a place in a part
 part_get : (xs : List ℕ) (at n i : ℕ) → at ≤ i → i < at + n → get_or xs i 0 ≡ get_or (take n (drop at xs)) (i - at) 0
 part_get xs at n i l k =
     let e : at + (i - at) ≡ i = omega (arith, l) in
-    ap (λ j. get_or xs j 0) (sym e) ∙ sym (get_or-drop at xs (i - at) 0) ∙ sym (get_or-take n (drop at xs) (i - at) 0 (omega (arith, l, k)))
+    ap (λ j. get_or xs j 0) (sym e) ∙ sym (get_or-drop at xs (i - at) 0)
+    ∙ sym (get_or-take n (drop at xs) (i - at) 0 (omega (arith, l, k)))
 
 -- the file is shifted to one file
 pub one_shifted : OneShifted
@@ -93,19 +104,23 @@ one_shifted from by ts file a b apart h k =
 -- ---- chunks
 
 -- the places behind a piece that is put in
-pub put_in_behind : (e n : ℕ) (piece base : List ℕ) → e ≤ length base → e ≤ n → drop (n + length piece) (put_in e piece base) ≡ drop n base
+pub put_in_behind : (e n : ℕ) (piece base : List ℕ) → e ≤ length base → e ≤ n
+    → drop (n + length piece) (put_in e piece base) ≡ drop n base
 put_in_behind e n piece base inside h =
     let all : List ℕ = put_in e piece base in
     let front : length (take e base) ≡ e = length-take-le e base inside in
     let first : drop e all ≡ piece ++ drop e base = drop_at (take e base) (piece ++ drop e base) e front in
-    let second : drop (length piece) (drop e all) ≡ drop e base = ap (drop (length piece)) first ∙ drop_at piece (drop e base) (length piece) refl in
+    let second : drop (length piece) (drop e all) ≡ drop e base =
+    ap (drop (length piece)) first ∙ drop_at piece (drop e base) (length piece) refl in
     let place : (e + length piece) + (n - e) ≡ n + length piece = omega (arith, h) in
     let back : e + (n - e) ≡ n = omega (arith, h) in
-    ap (λ m. drop m all) (sym place) ∙ sym (drop-drop (n - e) (e + length piece) all) ∙ ap (drop (n - e)) (sym (drop-drop (length piece) e all) ∙ second)
+    ap (λ m. drop m all) (sym place) ∙ sym (drop-drop (n - e) (e + length piece) all)
+    ∙ ap (drop (n - e)) (sym (drop-drop (length piece) e all) ∙ second)
     ∙ drop-drop (n - e) e base ∙ ap (λ m. drop m base) back
 
 -- where no moved place is too large, each fits
-none_pass : (p : Field → Bool) (fs : List Field) (f : Field) → map (λ (g : Field). g.at) (filter p fs) ≡ [] → Member f fs → p f ≡ false
+none_pass : (p : Field → Bool) (fs : List Field) (f : Field) → map (λ (g : Field). g.at) (filter p fs) ≡ []
+    → Member f fs → p f ≡ false
 none_pass p [] f e m = absurd m
 none_pass p (g ∷ gs) f e m = go (p g) refl e (λ h n. none_pass p gs f h n) m
   where
@@ -116,11 +131,14 @@ none_pass p (g ∷ gs) f e m = go (p g) refl e (λ h n. none_pass p gs f h n) m
     go false s h more (inr n) = more h n
 
 -- a place that fits is moved
-moves : (wide : Bool) (from by v : ℕ) → from ≤ v → (nat_le from v && nat_le (field_limit wide) (v + by)) ≡ false → moved wide from by v ≡ v + by
+moves : (wide : Bool) (from by v : ℕ) → from ≤ v → (nat_le from v && nat_le (field_limit wide) (v + by)) ≡ false
+    → moved wide from by v ≡ v + by
 moves wide from by v h e =
     let yes : nat_le from v ≡ true = le-leb from v h in
-    let no : nat_le (field_limit wide) (v + by) ≡ false = sym (ap (λ t. t && nat_le (field_limit wide) (v + by)) yes) ∙ e in
-    let small : v + by < field_limit wide = ⊎_elim (λ l. l) (λ g. absurd (let bad = sym (le-leb (field_limit wide) (v + by) g) ∙ no in cc (bad))) (cases_lt (v + by) (field_limit wide)) in
+    let no : nat_le (field_limit wide) (v + by) ≡ false =
+    sym (ap (λ t. t && nat_le (field_limit wide) (v + by)) yes) ∙ e in
+    let small : v + by < field_limit wide =
+    ⊎_elim (λ l. l) (λ g. absurd (let bad = sym (le-leb (field_limit wide) (v + by) g) ∙ no in cc (bad))) (cases_lt (v + by) (field_limit wide)) in
     ap₂ (λ (s t : Bool). cond (s && t) (v + by) v) yes (lt-ltb (v + by) (field_limit wide) small)
 
 -- each field tells where its byte is then
@@ -129,14 +147,18 @@ chunks_stay e piece media base ts f v inside fits s has behind is from within =
     let d : ℕ = length piece in
     let new : List ℕ = put_in e piece base in
     let size : e ≤ length base = omega (arith, s.size, inside) in
-    let fits' : (nat_le e (number_at f.wide media f.at) && nat_le (field_limit f.wide) (number_at f.wide media f.at + d)) ≡ false = none_pass (overflows e d media) (all_fields ts) f fits (to_member (all_fields ts) f has) in
-    let moves' : moved f.wide e d (number_at f.wide media f.at) ≡ number_at f.wide media f.at + d = moves f.wide e d (number_at f.wide media f.at) (omega (arith, is, from)) fits' in
+    let fits' : (nat_le e (number_at f.wide media f.at) && nat_le (field_limit f.wide) (number_at f.wide media f.at + d)) ≡ false =
+    none_pass (overflows e d media) (all_fields ts) f fits (to_member (all_fields ts) f has) in
+    let moves' : moved f.wide e d (number_at f.wide media f.at) ≡ number_at f.wide media f.at + d =
+    moves f.wide e d (number_at f.wide media f.at) (omega (arith, is, from)) fits' in
     let byte : get_or new (v + d) 0 ≡ get_or base v 0 =
     (let n : v + d + 0 ≡ v + d = omega arith in let m : v + 0 ≡ v = omega arith in
     ap (λ k. get_or new k 0) (sym n) ∙ sym (get_or-drop (v + d) new 0 0) ∙ ap (λ (xs : List ℕ). get_or xs 0 0) (put_in_behind e v piece base size from) ∙ get_or-drop v base 0 0 ∙ ap (λ k. get_or base k 0) m) in
     record {
       field =
-          number_of f.wide new (f.at + d) ∙ ap (λ (xs : List ℕ). number_in f.wide (take (field_len f.wide) xs)) (put_in_behind e f.at piece base size behind)
+          number_of f.wide new (f.at + d)
+          ∙ ap (λ (xs : List ℕ). number_in f.wide (take (field_len f.wide) xs))
+          (put_in_behind e f.at piece base size behind)
           ∙ sym (number_of f.wide base f.at) ∙ s.fields f has ∙ moves' ∙ ap (λ n. n + d) (sym is);
       byte = λ free. byte ∙ s.others v free;
     }

@@ -80,8 +80,8 @@ pub record ChunkStays (e : ℕ) (piece media base : List ℕ) (ts : List ChunkTa
   pub byte : ((g : Field) → Contains (all_fields ts) g → Covers g v → ⊥)
       → get_or (put_in e piece base) (v + length piece) 0 ≡ get_or media v 0
 
--- So it is with each field behind `e` that holds a place of the media from `e` on, where the piece is as long as places from `e` on are
--- moved and no sum is too large for its field.
+-- A field behind `e` that holds a place of the media from `e` on holds the new place of what stood there, where the piece is as long as
+-- places from `e` on are moved and no sum is too large for its field.
 abbrev pub ChunksStay : Type 0
 ChunksStay = (e : ℕ) (piece media base : List ℕ) (ts : List ChunkTable) (f : Field) (v : ℕ)
     → e ≤ length media → overflow_places e (length piece) media ts ≡ []

@@ -19,7 +19,7 @@ pub struct ChunkTable {
 pub struct Field {
     /// The place in the file where it begins, in bytes.
     pub at: u64,
-    /// It has 8 bytes, and not 4.
+    /// Whether the field has 8 bytes, and not 4.
     pub wide: bool,
 }
 

@@ -7,28 +7,30 @@ use Rattle.c2_base.specs.declared.values.Range.{Range}
 use Rattle.c2_bmff_excluded.specs.Marks.{in_row, in_row_part, stands_at}
 use Rattle.c2_bmff_rows.specs.declared.row.RootBox.{RootBox}
 use Rattle.c2_spec.specs.Bmff.Hash.{in_part}
-
--- three tests that must all hold may be joined either way
-and_join : (a b c : Bool) → (a && (b && c)) ≡ ((a && b) && c)
-and_join true b c = refl
-and_join false b c = refl
+use Rattle.c2_lemmas.proofs.Bools.{and_join}
 
 -- fronts of one length, and rests
-eq_append : (xs ys us vs : List ℕ) → length xs ≡ length ys → bytes_eq (xs ++ us) (ys ++ vs) ≡ (bytes_eq xs ys && bytes_eq us vs)
+eq_append : (xs ys us vs : List ℕ) → length xs ≡ length ys
+    → bytes_eq (xs ++ us) (ys ++ vs) ≡ (bytes_eq xs ys && bytes_eq us vs)
 eq_append [] [] us vs e = refl
 eq_append [] (y ∷ ys) us vs e = absurd (cc (e))
 eq_append (x ∷ xs) [] us vs e = absurd (cc (e))
 eq_append (x ∷ xs) (y ∷ ys) us vs e = let f : length xs ≡ length ys = let g : suc (length xs) ≡ suc (length ys) = e in omega (arith, g) in ap (λ b. nat_eq x y && b) (eq_append xs ys us vs f) ∙ and_join (nat_eq x y) (bytes_eq xs ys) (bytes_eq us vs)
 
 -- the first bytes of a value, and the others
-pub stands_split : (file : List ℕ) (at : ℕ) (value : List ℕ) (n : ℕ) → n ≤ length value → at + length value ≤ length file → stands_at file at value ≡ (bytes_eq (take n (drop at file)) (take n value) && stands_at file (at + n) (drop n value))
+pub stands_split : (file : List ℕ) (at : ℕ) (value : List ℕ) (n : ℕ) → n ≤ length value
+    → at + length value ≤ length file
+    → stands_at file at value ≡ (bytes_eq (take n (drop at file)) (take n value) && stands_at file (at + n) (drop n value))
 stands_split file at value n inside fits =
     let all : List ℕ = take (length value) (drop at file) in
-    let size : length all ≡ length value = length-take-le (length value) (drop at file) (omega (arith, length-drop at file, fits)) in
+    let size : length all ≡ length value =
+    length-take-le (length value) (drop at file) (omega (arith, length-drop at file, fits)) in
     let rest : length value ≡ n + length (drop n value) = omega (arith, length-drop n value, inside) in
     ap₂ bytes_eq (sym (take-append-drop n all)) (sym (take-append-drop n value))
-    ∙ eq_append (take n all) (take n value) (drop n all) (drop n value) (length-take-le n all (omega (arith, size, inside)) ∙ sym (length-take-le n value inside))
-    ∙ ap₂ (λ (a b : Bool). a && b) (ap (λ (xs : List ℕ). bytes_eq xs (take n value)) (take-take n (length value) (drop at file) inside))
+    ∙ eq_append (take n all) (take n value) (drop n all) (drop n value)
+    (length-take-le n all (omega (arith, size, inside)) ∙ sym (length-take-le n value inside))
+    ∙ ap₂ (λ (a b : Bool). a && b)
+    (ap (λ (xs : List ℕ). bytes_eq xs (take n value)) (take-take n (length value) (drop at file) inside))
     (ap (λ (xs : List ℕ). bytes_eq xs (drop n value)) (ap (λ k. drop n (take k (drop at file))) rest ∙ drop-take n (length (drop n value)) (drop at file) ∙ ap (take (length (drop n value))) (drop-drop n at file)))
 
 -- ---- lists
@@ -40,7 +42,8 @@ and_any false p [] = refl
 and_any false p (x ∷ xs) = and_any false p xs
 
 -- the parts of a box, and its subset
-pub parts_are : (i : ℕ) (r : RootBox) (parts : List Range) → list_any (in_row_part i r) parts ≡ (in_row i r && list_any (in_part (i - r.start)) parts)
+pub parts_are : (i : ℕ) (r : RootBox) (parts : List Range)
+    → list_any (in_row_part i r) parts ≡ (in_row i r && list_any (in_part (i - r.start)) parts)
 parts_are i r parts = and_any (in_row i r) (in_part (i - r.start)) parts
 
 -- a range of nothing

@@ -14,31 +14,42 @@ use Rattle.c2_bmff_excluded.specs.Marks.{excludes_any, excludes_row, has_length,
 use Rattle.c2_bmff_excluded.specs.Parts.{AreRising, AskSame, MarkSame}
 use Rattle.c2_bmff_excluded.specs.Runs.{MeetAlike}
 use Rattle.c2_bmff_rows.specs.declared.row.RootBox.{RootBox}
-use Rattle.c2_bmff_rows.proofs.Lists.{any_append, or_false, or_join}
+use Rattle.c2_bmff_rows.proofs.Lists.{any_append}
+use Rattle.c2_lemmas.proofs.Bools.{or_false, or_join}
 
 -- ---- parts in order
 
 -- parts of which the last is replaced by one that begins where it did
-pub again_rising : (xs : List Range) (x y : Range) → y.start ≡ x.start → AreRising (xs ++ x ∷ []) → AreRising (xs ++ y ∷ [])
+pub again_rising : (xs : List Range) (x y : Range) → y.start ≡ x.start → AreRising (xs ++ x ∷ [])
+    → AreRising (xs ++ y ∷ [])
 again_rising xs x y same h = IsNonDecreasingBy-push (λ (p : Range). p.start) xs y before (λ d some. last d some)
   where
     before : AreRising xs
-    before = subst AreRising (take-append-le (length xs) xs (x ∷ []) (omega arith) ∙ take_all (length xs) xs (omega arith)) (IsNonDecreasingBy-take (λ (p : Range). p.start) (length xs) (xs ++ x ∷ []) h)
+    before =
+        subst AreRising (take-append-le (length xs) xs (x ∷ []) (omega arith) ∙ take_all (length xs) xs (omega arith))
+        (IsNonDecreasingBy-take (λ (p : Range). p.start) (length xs) (xs ++ x ∷ []) h)
 
     last : (d : Range) → 0 < length xs → (get_or xs (length xs - 1) d).start ≤ y.start
     last d some =
         let size : length (xs ++ x ∷ []) ≡ length xs + 1 = length-append xs (x ∷ []) in
-        let step : (get_or (xs ++ x ∷ []) (length xs - 1) d).start ≤ (get_or (xs ++ x ∷ []) (length xs + 0) d).start = h (length xs - 1) (length xs + 0) d (omega (arith, some)) (omega (arith, size)) in
-        let left : (get_or (xs ++ x ∷ []) (length xs - 1) d).start ≡ (get_or xs (length xs - 1) d).start = ap (λ (p : Range). p.start) (get_or_append_left xs (x ∷ []) d (length xs - 1) (omega (arith, some))) in
-        let right : (get_or (xs ++ x ∷ []) (length xs + 0) d).start ≡ x.start = ap (λ (p : Range). p.start) (get_or-append-add xs (x ∷ []) 0 d) in
+        let step : (get_or (xs ++ x ∷ []) (length xs - 1) d).start ≤ (get_or (xs ++ x ∷ []) (length xs + 0) d).start =
+        h (length xs - 1) (length xs + 0) d (omega (arith, some)) (omega (arith, size)) in
+        let left : (get_or (xs ++ x ∷ []) (length xs - 1) d).start ≡ (get_or xs (length xs - 1) d).start =
+        ap (λ (p : Range). p.start) (get_or_append_left xs (x ∷ []) d (length xs - 1) (omega (arith, some))) in
+        let right : (get_or (xs ++ x ∷ []) (length xs + 0) d).start ≡ x.start =
+        ap (λ (p : Range). p.start) (get_or-append-add xs (x ∷ []) 0 d) in
         omega (arith, step, left, right, same)
 
 -- where parts that begin no earlier than this one hold a position of a box only where it does, so do those of a list
-later_hold : (i : ℕ) (r : RootBox) (x : Range) → ((later : Range) → x.start ≤ later.start → in_row_part i r later ≡ true → in_row_part i r x ≡ true) → (ys : List Range) → AllByRecursion (λ (y : Range). x.start ≤ y.start) ys → list_any (in_row_part i r) ys ≡ true → in_row_part i r x ≡ true
+later_hold : (i : ℕ) (r : RootBox) (x : Range)
+    → ((later : Range) → x.start ≤ later.start → in_row_part i r later ≡ true → in_row_part i r x ≡ true)
+    → (ys : List Range) → AllByRecursion (λ (y : Range). x.start ≤ y.start) ys → list_any (in_row_part i r) ys ≡ true
+    → in_row_part i r x ≡ true
 later_hold i r x ends [] all h = absurd (cc (h))
 later_hold i r x ends (y ∷ ys) all h = go (in_row_part i r y) refl h (λ n. later_hold i r x ends ys all.1 n)
   where
-    go : (b : Bool) → in_row_part i r y ≡ b → (b || list_any (in_row_part i r) ys) ≡ true → (list_any (in_row_part i r) ys ≡ true → in_row_part i r x ≡ true) → in_row_part i r x ≡ true
+    go : (b : Bool) → in_row_part i r y ≡ b → (b || list_any (in_row_part i r) ys) ≡ true
+        → (list_any (in_row_part i r) ys ≡ true → in_row_part i r x ≡ true) → in_row_part i r x ≡ true
     go true e n others = ends y all.0 e
     go false e n others = others n
 
@@ -64,11 +75,15 @@ rest_adds_nothing i r parts k d old rising inside ends =
     later : AllByRecursion (λ (y : Range). x.start ≤ y.start) (drop (k + 1) parts)
     later = recursion_from_All (λ (y : Range). x.start ≤ y.start) (drop (k + 1) parts) (λ j e lt. below j e lt)
       where
-        below : (j : ℕ) (e : Range) → j < length (drop (k + 1) parts) → x.start ≤ (get_or (drop (k + 1) parts) j e).start
+        below : (j : ℕ) (e : Range) → j < length (drop (k + 1) parts)
+            → x.start ≤ (get_or (drop (k + 1) parts) j e).start
         below j e lt =
-            let step : (get_or parts k e).start ≤ (get_or parts (k + 1 + j) e).start = rising k (k + 1 + j) e (omega arith) (omega (arith, length-drop (k + 1) parts, lt)) in
-            let first : (get_or parts k e).start ≡ x.start = ap (λ (y : Range). y.start) (get_or_default parts k e d inside) in
-            let second : (get_or (drop (k + 1) parts) j e).start ≡ (get_or parts (k + 1 + j) e).start = ap (λ (y : Range). y.start) (get_or-drop (k + 1) parts j e) in
+            let step : (get_or parts k e).start ≤ (get_or parts (k + 1 + j) e).start =
+            rising k (k + 1 + j) e (omega arith) (omega (arith, length-drop (k + 1) parts, lt)) in
+            let first : (get_or parts k e).start ≡ x.start =
+            ap (λ (y : Range). y.start) (get_or_default parts k e d inside) in
+            let second : (get_or (drop (k + 1) parts) j e).start ≡ (get_or parts (k + 1 + j) e).start =
+            ap (λ (y : Range). y.start) (get_or-drop (k + 1) parts j e) in
             omega (arith, step, first, second)
 
     by : (b : Bool) → list_any p (drop (k + 1) parts) ≡ b → (p x || b) ≡ p x
@@ -83,8 +98,11 @@ any_same p q [] h = refl
 any_same p q (x ∷ xs) h = ap₂ (λ (a b : Bool). a || b) (h x) (any_same p q xs h)
 
 -- an exclusion whose subset is replaced by one that holds the same positions, and its byte tests by those that the same boxes meet
-pub same_subset : (e : Exclusion) (path : List PathStep) (tests : List ByteTest) (subset : Option (List Range)) → MeetAlike tests e.tests → ((i : ℕ) → in_subset i subset ≡ in_subset i e.subset) → MarkSame (record { path = path; length = e.length; tests = tests; subset = subset }) e
-same_subset e path tests subset same h file i r = ap₂ (λ (a b : Bool). (has_length e.length r && a) && (in_row i r && b)) (same file r) (h (i - r.start))
+pub same_subset : (e : Exclusion) (path : List PathStep) (tests : List ByteTest) (subset : Option (List Range))
+    → MeetAlike tests e.tests → ((i : ℕ) → in_subset i subset ≡ in_subset i e.subset)
+    → MarkSame (record { path = path; length = e.length; tests = tests; subset = subset }) e
+same_subset e path tests subset same h file i r =
+    ap₂ (λ (a b : Bool). (has_length e.length r && a) && (in_row i r && b)) (same file r) (h (i - r.start))
 
 -- three tests of which the first two must hold may have the third shared
 and_or : (t w a b : Bool) → (t && (w && (a || b))) ≡ ((t && (w && a)) || (t && (w && b)))
@@ -115,7 +133,9 @@ united_same e d subset ask h file rows i =
     (λ r. ap (λ (b : Bool). takes file e r && (in_row i r && b)) (h (i - r.start)) ∙ and_or (takes file e r) (in_row i r) (in_subset (i - r.start) e.subset) (in_subset (i - r.start) d.subset)
     ∙ ap (λ (t : Bool). marks file e i r || (t && in_row_subset i r d.subset)) (ap₂ (λ (n : Option ℕ) (ts : List ByteTest). has_length n r && list_all (holds_test file r) ts) ask.1 ask.2))
     ∙ any_or (marks file e i) (marks file d i) (on_rows file rows e.path)
-    ∙ ap (λ (p : List PathStep). list_any (marks file e i) (on_rows file rows e.path) || list_any (marks file d i) (on_rows file rows p)) ask.0
+    ∙ ap
+    (λ (p : List PathStep). list_any (marks file e i) (on_rows file rows e.path) || list_any (marks file d i) (on_rows file rows p))
+    ask.0
 
 -- exclusions of one path with another of that path
 pub joins_path : (path : List PathStep) (xs : List Exclusion) (x e : Exclusion) → path ≡ e.path → MarkSame x e
@@ -123,11 +143,17 @@ pub joins_path : (path : List PathStep) (xs : List Exclusion) (x e : Exclusion) 
     → excludes_any file rows i (record { path = path; exclusions = xs ++ x ∷ [] })
     ≡ (excludes_any file rows i (record { path = path; exclusions = xs }) || excludes_row file rows i e)
 joins_path path xs x e is same file rows i =
-    any_same (λ r. list_any (λ (y : Exclusion). marks file y i r) (xs ++ x ∷ [])) (λ r. list_any (λ (y : Exclusion). marks file y i r) xs || marks file e i r) (on_rows file rows path)
+    any_same (λ r. list_any (λ (y : Exclusion). marks file y i r) (xs ++ x ∷ []))
+    (λ r. list_any (λ (y : Exclusion). marks file y i r) xs || marks file e i r) (on_rows file rows path)
     (λ r. any_append (λ (y : Exclusion). marks file y i r) xs x ∙ ap (λ (b : Bool). list_any (λ (y : Exclusion). marks file y i r) xs || b) (same file i r))
     ∙ any_or (λ r. list_any (λ (y : Exclusion). marks file y i r) xs) (marks file e i) (on_rows file rows path)
-    ∙ ap (λ (p : List PathStep). list_any (λ r. list_any (λ (y : Exclusion). marks file y i r) xs) (on_rows file rows path) || list_any (marks file e i) (on_rows file rows p)) is
+    ∙ ap
+    (λ (p : List PathStep). list_any (λ r. list_any (λ (y : Exclusion). marks file y i r) xs) (on_rows file rows path) || list_any (marks file e i) (on_rows file rows p))
+    is
 
 -- one exclusion of a path
-pub begins_path : (x e : Exclusion) → MarkSame x e → (file : List ℕ) (rows : List RootBox) (i : ℕ) → excludes_any file rows i (record { path = e.path; exclusions = x ∷ [] }) ≡ excludes_row file rows i e
-begins_path x e same file rows i = any_same (λ r. marks file x i r || false) (marks file e i) (on_rows file rows e.path) (λ r. or_false (marks file x i r) ∙ same file i r)
+pub begins_path : (x e : Exclusion) → MarkSame x e → (file : List ℕ) (rows : List RootBox) (i : ℕ)
+    → excludes_any file rows i (record { path = e.path; exclusions = x ∷ [] }) ≡ excludes_row file rows i e
+begins_path x e same file rows i =
+    any_same (λ r. marks file x i r || false) (marks file e i) (on_rows file rows e.path)
+    (λ r. or_false (marks file x i r) ∙ same file i r)

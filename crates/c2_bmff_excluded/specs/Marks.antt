@@ -35,11 +35,11 @@ takes file e r = has_length e.length r && list_all (holds_test file r) e.tests
 abbrev pub in_row : ℕ → RootBox → Bool
 in_row i r = nat_le r.start i && nat_lt i (r.start + r.length)
 
--- and a part of it does
+-- a position lies in the box of this row, and in this part of the box
 abbrev pub in_row_part : ℕ → RootBox → Range → Bool
 in_row_part i r part = in_row i r && in_part (i - r.start) part
 
--- or its subset
+-- a position lies in the box of this row, and in this subset of the box
 abbrev pub in_row_subset : ℕ → RootBox → Option (List Range) → Bool
 in_row_subset i r subset = in_row i r && in_subset (i - r.start) subset
 

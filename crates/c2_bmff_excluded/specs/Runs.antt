@@ -33,7 +33,7 @@ IsRunWithin n run = (run.start ≤ run.end) × (run.end ≤ n)
 abbrev pub last_test : List ℕ → Last → ByteTest
 last_test bytes last = record { offset = last.offset; value = drop last.start bytes }
 
--- it begins among so many bytes or at their end
+-- the last run begins among so many bytes or at their end
 abbrev pub IsLastWithin : ℕ → Last → Type 0
 IsLastWithin n last = last.start ≤ n
 
@@ -41,7 +41,7 @@ IsLastWithin n last = last.start ≤ n
 abbrev pub holds_last : List ℕ → RootBox → List ℕ → List Run → Last → Bool
 holds_last file r bytes runs last = holds_test file r (last_test bytes last) && list_all (holds_test file r) (map (run_test bytes) runs)
 
--- the same, where None is a run that no box meets
+-- a box meets these runs and the last one; without a last one no box does
 abbrev pub holds_next : List ℕ → RootBox → List ℕ → List Run → Option Last → Bool
 holds_next file r bytes runs None = false
 holds_next file r bytes runs (Some last) = holds_last file r bytes runs last

@@ -177,7 +177,7 @@ fn add_exclusion<'e>(
     Ok(())
 }
 
-// These exclusions, those beside one another that may be alike.
+// These exclusions, where those that may be alike stand beside one another.
 fn sorted<'e>(alloc: Global, exclusions: &'e [Exclusion]) -> Result<Vec<Member<'e>>, NoMemory>
     ensures { IfOk result (λ list. IsPermutation exclusions.now list.items) }
 {

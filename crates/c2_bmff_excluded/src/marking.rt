@@ -6,7 +6,7 @@ ghost use Rattle.std.specs.Option.{ForSome};
 ghost use Rattle.c2_base.specs.Causes.{HasCause};
 ghost use Rattle.c2_base.specs.Source.{ReadsSource, StaysSource};
 ghost use Rattle.c2_spec.specs.Cover.{holds, is_excluded};
-ghost use Rattle.c2_bmff_boxes.specs.Causes.{IsCaused, OrOutside};
+ghost use Rattle.c2_bmff_boxes.specs.Causes.{IsBmffCaused, OrBmffFault};
 ghost use Rattle.c2_bmff_rows.specs.Rows.{IsRowWithin};
 ghost use Rattle.c2_bmff_excluded.specs.Parts.{AreRising, StartsBy};
 ghost use Rattle.c2_bmff_excluded.specs.Marks.{AreApart, GrowsWithin, IsFront, IsRangeWithin, has_length, holds_test, in_row, in_row_part, in_row_subset, is_row_in, joined_again, marks, takes};
@@ -417,8 +417,8 @@ pub fn mark_row<S: Source>(
     ensures some { OnErr result
         (GrowsWithin (λ i. in_row i row) ranges.old.items ranges.new.items) }
     ensures within { All (IsRangeWithin (S.len source.old)) ranges.new.items }
-    ensures reads { ReadsSource S.len S.known S.faults IsCaused source.old source.new result }
-    ensures outside { IfErr result (λ e. OrOutside e ⊥) }
+    ensures reads { ReadsSource S.len S.known S.faults IsBmffCaused source.old source.new result }
+    ensures outside { IfErr result (λ e. OrBmffFault e ⊥) }
 {
     if !takes_row(source, ask, row, front)? {
         return Ok(());

@@ -11,11 +11,11 @@ use Rattle.c2_spec.specs.Jumbf.Faults.{has_head, told_total}
 pub payload_len : (store : List ℕ) → length (c2pa_payload store) ≡ 37 + length store
 payload_len store = omega arith
 
--- its length
+-- the length of the box of a store
 pub frame_len : (store : List ℕ) → box_len (c2pa_box store) ≡ c2pa_frame_len + length store
 frame_len store = omega (arith, payload_len store)
 
--- it is a box that says its size
+-- the box of a store is a box that says its size
 pub is_frame : (store : List ℕ) → IsBoxStore store → IsSizedBox (c2pa_box store)
 is_frame store h = record {
   is_box = record {
@@ -26,7 +26,7 @@ is_frame store h = record {
   sized = refl;
 }
 
--- it is one for a store
+-- the box of a store is one for a store
 pub holds_store : (store : List ℕ) → is_store_box (c2pa_box store) ≡ true
 unfolding is_store_box is_c2pa_box
 holds_store store = refl
@@ -38,7 +38,7 @@ whole_store store h =
     (and_from (leb 21 (length (content_of (c2pa_box store)))) (has_head store) (le-leb 21 (length (content_of (c2pa_box store))) (omega arith)) h.head)
     (le-leb (told_total store) (length store) (omega (arith, h.whole)))
 
--- and read as it is
+-- the store of its box is read as it is
 pub same_store : (store : List ℕ) → IsBoxStore store → store_in (content_of (c2pa_box store)) ≡ store
 same_store store h = take_all (told_total store) store (omega (arith, h.whole))
 

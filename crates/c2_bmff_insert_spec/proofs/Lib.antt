@@ -1,4 +1,5 @@
-mod Bases
+pub mod Bases
 mod Covering
 pub mod Frames
 pub mod Placing
+pub mod TheLaws

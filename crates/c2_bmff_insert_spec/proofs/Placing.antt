@@ -1,5 +1,5 @@
 -- A box put in among root boxes.
-use Rattle.std.proofs.Common.{◌≡◌, ℕ, suc, ◌+◌, Bool, true, false, not, cond, ◌&&◌, List, [], ◌∷◌, ◌++◌, length, take, drop, Some, None, refl, sym, ap, ap₂, ◌∙◌, arith, length-append}
+use Rattle.std.proofs.Common.{◌≡◌, ℕ, suc, ◌+◌, Bool, true, false, cond, List, [], ◌∷◌, ◌++◌, length, take, drop, None, refl, sym, ap, ap₂, ◌∙◌, arith, length-append}
 use Rattle.std.proofs.lemmas.Grind.{flat_map-append}
 use Rattle.std.proofs.lemmas.List.{take_at, drop_at, drop-drop}
 use Rattle.std.proofs.lemmas.Slice.Eq.{bytes_eq-Decides}
@@ -10,23 +10,9 @@ use Rattle.c2_spec.specs.Bmff.Paths.{placed_from}
 use Rattle.c2_spec.specs.Bmff.Writing.{before_mfra, is_file_end, is_mfra, last_mfra, mfra_kind, open_end}
 use Rattle.c2_spec.specs.PutIn.{put_in, taken_out}
 use Rattle.c2_spec.proofs.BmffOneList.{first_box, tells}
+use Rattle.c2_lemmas.proofs.Options.{is_closed}
 
 -- ---- lists
-
--- what holds of all of two lists holds of all of both together
-pub all_append : {A : Type 0} (P : A → Type 0) (xs ys : List A) → AllByRecursion P xs → AllByRecursion P ys → AllByRecursion P (xs ++ ys)
-all_append P [] ys h k = k
-all_append P (x ∷ xs) ys h k = (h.0, all_append P xs ys h.1 k)
-
--- of the first
-pub all_front : {A : Type 0} (P : A → Type 0) (xs ys : List A) → AllByRecursion P (xs ++ ys) → AllByRecursion P xs
-all_front P [] ys h = tt
-all_front P (x ∷ xs) ys h = (h.0, all_front P xs ys h.1)
-
--- of the second
-pub all_back : {A : Type 0} (P : A → Type 0) (xs ys : List A) → AllByRecursion P (xs ++ ys) → AllByRecursion P ys
-all_back P [] ys h = h
-all_back P (x ∷ xs) ys h = all_back P xs ys h.1
 
 -- ---- the two parts of root boxes
 
@@ -50,14 +36,9 @@ last_is_end (b ∷ []) = go (is_mfra b) refl
     go false e = refl
 last_is_end (b ∷ c ∷ cs) = last_is_end (c ∷ cs)
 
--- a box that isn't open says its size, where it isn't `mfra`
-is_closed : (at : ℕ) (t m : Bool) → m ≡ false → cond (t && not m) (Some at) None ≡ None → t ≡ false
-is_closed at true true e h = absurd (cc (e))
-is_closed at true false e h = absurd (cc (h))
-is_closed at false m e h = refl
-
 -- where the last box isn't open, all before a last `mfra` say their sizes
-pub before_sized : (p : ℕ) (bs : List Box) → AreBoxForms bs → open_end (placed_from p bs) ≡ None → AllByRecursion IsSizedBox (before_mfra bs)
+pub before_sized : (p : ℕ) (bs : List Box) → AreBoxForms bs → open_end (placed_from p bs) ≡ None
+    → AllByRecursion IsSizedBox (before_mfra bs)
 before_sized p [] f h = tt
 before_sized p (b ∷ []) f h = go (is_mfra b) refl
   where
@@ -104,12 +85,16 @@ begins_with b rest h = ap (λ k. bytes_eq k ftyp_kind) (tells b.form b.kind b.pa
 -- the first root box is of type `ftyp`
 pub first_is : (file : List ℕ) (b : Box) (bs : List Box) → HasRoots file (b ∷ bs) → b.kind ≡ ftyp_kind
 first_is file b bs h =
-    let e : begins_bmff file ≡ bytes_eq b.kind ftyp_kind = ap begins_bmff h.bytes ∙ begins_with b (flat_map box_bytes bs) (first_box b bs h.forms) in
+    let e : begins_bmff file ≡ bytes_eq b.kind ftyp_kind =
+    ap begins_bmff h.bytes ∙ begins_with b (flat_map box_bytes bs) (first_box b bs h.forms) in
     (bytes_eq-Decides b.kind ftyp_kind).0 (sym e ∙ h.begins)
 
 -- boxes of which the first is of type `ftyp` begin a BMFF file
-pub begins_list : (bs : List Box) (b : Box) (cs : List Box) → bs ≡ b ∷ cs → IsBox b → b.kind ≡ ftyp_kind → begins_bmff (flat_map box_bytes bs) ≡ true
-begins_list bs b cs e h k = ap (λ (xs : List Box). begins_bmff (flat_map box_bytes xs)) e ∙ begins_with b (flat_map box_bytes cs) h ∙ ap (λ (x : List ℕ). bytes_eq x ftyp_kind) k
+pub begins_list : (bs : List Box) (b : Box) (cs : List Box) → bs ≡ b ∷ cs → IsBox b → b.kind ≡ ftyp_kind
+    → begins_bmff (flat_map box_bytes bs) ≡ true
+begins_list bs b cs e h k =
+    ap (λ (xs : List Box). begins_bmff (flat_map box_bytes xs)) e ∙ begins_with b (flat_map box_bytes cs) h
+    ∙ ap (λ (x : List ℕ). bytes_eq x ftyp_kind) k
 
 -- the first of the boxes before a last `mfra` is the first of all, where that is none
 before_first : (b : Box) (bs : List Box) → is_mfra b ≡ false → (cs : List Box) × (before_mfra (b ∷ bs) ≡ b ∷ cs)
@@ -117,26 +102,31 @@ before_first b [] e = ([], ap (λ (t : Bool). cond t [] (b ∷ [])) e)
 before_first b (c ∷ cs) e = (before_mfra (c ∷ cs), refl)
 
 -- the boxes before a last `mfra`, and whatever comes then, begin a BMFF file
-pub begins_before : (file : List ℕ) (bs ys : List Box) → HasRoots file bs → begins_bmff (flat_map box_bytes (before_mfra bs ++ ys)) ≡ true
+pub begins_before : (file : List ℕ) (bs ys : List Box) → HasRoots file bs
+    → begins_bmff (flat_map box_bytes (before_mfra bs ++ ys)) ≡ true
 begins_before file [] ys h = absurd (let bad = sym h.begins ∙ ap begins_bmff h.bytes in cc (bad))
 begins_before file (b ∷ bs) ys h =
     let k : b.kind ≡ ftyp_kind = first_is file b bs h in
     let one = before_first b bs (ap (λ (x : List ℕ). bytes_eq x mfra_kind) k) in
-    begins_list (before_mfra (b ∷ bs) ++ ys) b (one.0 ++ ys) (ap (λ (xs : List Box). xs ++ ys) one.1) (first_box b bs h.forms) k
+    begins_list (before_mfra (b ∷ bs) ++ ys) b (one.0 ++ ys) (ap (λ (xs : List Box). xs ++ ys) one.1)
+    (first_box b bs h.forms) k
 
 -- ---- bytes
 
 -- a box put in where the first boxes end stands between both parts
-pub put_is : (xs ys : List Box) (b : Box) → put_in (boxes_len xs) (box_bytes b) (flat_map box_bytes (xs ++ ys)) ≡ flat_map box_bytes (xs ++ b ∷ ys)
+pub put_is : (xs ys : List Box) (b : Box)
+    → put_in (boxes_len xs) (box_bytes b) (flat_map box_bytes (xs ++ ys)) ≡ flat_map box_bytes (xs ++ b ∷ ys)
 put_is xs ys b =
-    let all : flat_map box_bytes (xs ++ ys) ≡ flat_map box_bytes xs ++ flat_map box_bytes ys = flat_map-append box_bytes xs ys in
+    let all : flat_map box_bytes (xs ++ ys) ≡ flat_map box_bytes xs ++ flat_map box_bytes ys =
+    flat_map-append box_bytes xs ys in
     ap₂ (λ (f r : List ℕ). f ++ (box_bytes b ++ r))
     (ap (take (boxes_len xs)) all ∙ take_at (flat_map box_bytes xs) (flat_map box_bytes ys) (boxes_len xs) refl)
     (ap (drop (boxes_len xs)) all ∙ drop_at (flat_map box_bytes xs) (flat_map box_bytes ys) (boxes_len xs) refl)
     ∙ sym (flat_map-append box_bytes xs (b ∷ ys))
 
 -- taken out again, it leaves both parts
-pub left_is : (xs ys : List Box) (b : Box) (n : ℕ) → length (box_bytes b) ≡ n → taken_out (boxes_len xs) n (flat_map box_bytes (xs ++ b ∷ ys)) ≡ flat_map box_bytes (xs ++ ys)
+pub left_is : (xs ys : List Box) (b : Box) (n : ℕ) → length (box_bytes b) ≡ n
+    → taken_out (boxes_len xs) n (flat_map box_bytes (xs ++ b ∷ ys)) ≡ flat_map box_bytes (xs ++ ys)
 left_is xs ys b n e =
     let front : List ℕ = flat_map box_bytes xs in
     let back : List ℕ = flat_map box_bytes ys in
@@ -151,12 +141,16 @@ left_is xs ys b n e =
 pub one_more : (xs ys : List Box) (b : Box) → length (xs ++ b ∷ ys) ≡ suc (length (xs ++ ys))
 one_more xs ys b = omega (arith, length-append xs (b ∷ ys), length-append xs ys)
 
--- and its bytes more
+-- one box more between others has its bytes more
 pub bytes_more : (xs ys : List Box) (b : Box) → boxes_len (xs ++ b ∷ ys) ≡ boxes_len (xs ++ ys) + length (box_bytes b)
 bytes_more xs ys b =
     let front : ℕ = boxes_len xs in
     let back : ℕ = boxes_len ys in
     let own : ℕ = length (box_bytes b) in
-    let with_b : boxes_len (xs ++ b ∷ ys) ≡ front + (own + back) = ap length (flat_map-append box_bytes xs (b ∷ ys)) ∙ length-append (flat_map box_bytes xs) (box_bytes b ++ flat_map box_bytes ys) ∙ ap (λ n. front + n) (length-append (box_bytes b) (flat_map box_bytes ys)) in
-    let without : boxes_len (xs ++ ys) ≡ front + back = ap length (flat_map-append box_bytes xs ys) ∙ length-append (flat_map box_bytes xs) (flat_map box_bytes ys) in
+    let with_b : boxes_len (xs ++ b ∷ ys) ≡ front + (own + back) =
+    ap length (flat_map-append box_bytes xs (b ∷ ys))
+    ∙ length-append (flat_map box_bytes xs) (box_bytes b ++ flat_map box_bytes ys)
+    ∙ ap (λ n. front + n) (length-append (box_bytes b) (flat_map box_bytes ys)) in
+    let without : boxes_len (xs ++ ys) ≡ front + back =
+    ap length (flat_map-append box_bytes xs ys) ∙ length-append (flat_map box_bytes xs) (flat_map box_bytes ys) in
     omega (arith, with_b, without)

@@ -29,7 +29,7 @@ pub record HoldsNewStore (base : List ℕ) (roots : List Box) (store file : List
   pub base_is : IsBmffBase file base roots
   pub size : length file ≡ length base + (c2pa_frame_len + length store)
 
--- so it is with each store that is put into a file that can take it
+-- each store that is put into a file that can take it is held by the new file
 abbrev pub StoreIsPutIn : Type 0
 StoreIsPutIn =
     (base : List ℕ) (roots : List Box) (store : List ℕ) → CanTake base roots store
@@ -67,15 +67,15 @@ CoverIsBuiltText =
     (file : List ℕ) (roots : List Box) (size : ℕ) (excluded text : List ℕ) → HasRoots file roots
     → IsBmffCover roots size built_exclusions excluded text → text ≡ built_text roots
 
--- what they leave of root boxes that fill so many bytes
+-- the exclusions of a new BMFF hash leave what `built_text` tells of root boxes that fill so many bytes
 pub record HasBuiltCover (roots : List Box) (size : ℕ) : Type 0 where
   pub excluded : List ℕ
   pub cover : IsBmffCover roots size built_exclusions excluded (built_text roots)
 
--- they leave that of each file
+-- the exclusions of a new BMFF hash leave what `built_text` tells of the root boxes of each file
 abbrev pub BuiltTextIsCovered : Type 0
 BuiltTextIsCovered = (file : List ℕ) (roots : List Box) (size : ℕ) → HasRoots file roots → HasBuiltCover roots size
 
--- it is the same with a store and without
+-- `built_text` tells one text of root boxes with a store and without it
 abbrev pub StoreIsNotCovered : Type 0
 StoreIsNotCovered = (roots : List Box) (store : List ℕ) → built_text (with_store store roots) ≡ built_text roots

@@ -1,6 +1,7 @@
-pub mod Lists
-pub mod Faults
 pub mod BoxThere
-pub mod StandLemmas
-pub mod PathRows
+pub mod Faults
 pub mod HeldLemmas
+pub mod Lists
+pub mod PathRows
+pub mod StandLemmas
+pub mod TheLaws

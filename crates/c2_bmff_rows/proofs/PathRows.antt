@@ -14,7 +14,8 @@ use Rattle.c2_bmff_rows.specs.Paths.{HasBox, go_on, on_rows, row_matched}
 -- ---- steps
 
 -- what all rows have, those that pass have
-pub all_filter : {A : Type 0} (P : A → Type 0) (p : A → Bool) (xs : List A) → AllByRecursion P xs → AllByRecursion P (filter p xs)
+pub all_filter : {A : Type 0} (P : A → Type 0) (p : A → Bool) (xs : List A) → AllByRecursion P xs
+    → AllByRecursion P (filter p xs)
 all_filter P p [] h = tt
 all_filter P p (x ∷ xs) h = go (p x) (all_filter P p xs h.1)
   where
@@ -22,25 +23,31 @@ all_filter P p (x ∷ xs) h = go (p x) (all_filter P p xs h.1)
     go true rest = (h.0, rest)
     go false rest = rest
 
--- and the first after some
-pub all_one : {A : Type 0} (P : A → Type 0) (n : ℕ) (xs : List A) → AllByRecursion P xs → AllByRecursion P (take 1 (drop n xs))
+-- what all rows have, the first after some has
+pub all_one : {A : Type 0} (P : A → Type 0) (n : ℕ) (xs : List A) → AllByRecursion P xs
+    → AllByRecursion P (take 1 (drop n xs))
 all_one P zero [] h = tt
 all_one P zero (x ∷ xs) h = (h.0, tt)
-all_one {A} P (suc n) [] h = subst (λ (ys : List A). AllByRecursion P (take 1 ys)) (sym (drop_all (suc n) [] (omega arith))) tt
+all_one {A} P (suc n) [] h =
+    subst (λ (ys : List A). AllByRecursion P (take 1 ys)) (sym (drop_all (suc n) [] (omega arith))) tt
 all_one P (suc n) (x ∷ xs) h = all_one P n xs h.1
 
 -- the first step
-pub path_start : (file : List ℕ) (siblings : List RootBox) (step : PathStep) (steps : List PathStep) → on_rows file siblings (step ∷ steps) ≡ go_on file step steps (row_matched step siblings)
+pub path_start : (file : List ℕ) (siblings : List RootBox) (step : PathStep) (steps : List PathStep)
+    → on_rows file siblings (step ∷ steps) ≡ go_on file step steps (row_matched step siblings)
 path_start file siblings step [] = refl
 path_start file siblings step (next ∷ steps) = refl
 
 -- a step that enters nothing
-pub path_stops : (file : List ℕ) (step : PathStep) (rest : List PathStep) (found : List RootBox) → 0 < length rest → is_entered step.kind ≡ false → go_on file step rest found ≡ []
+pub path_stops : (file : List ℕ) (step : PathStep) (rest : List PathStep) (found : List RootBox) → 0 < length rest
+    → is_entered step.kind ≡ false → go_on file step rest found ≡ []
 path_stops file step [] found some other = absurd (omega arith)
-path_stops file step (next ∷ steps) found some other = ap (λ t. cond t (flat_map (λ (p : RootBox). on_rows file (kids file p) (next ∷ steps)) found) []) other
+path_stops file step (next ∷ steps) found some other =
+    ap (λ t. cond t (flat_map (λ (p : RootBox). on_rows file (kids file p) (next ∷ steps)) found) []) other
 
 -- the steps from one on
-pub steps_from : (path : List PathStep) (i : ℕ) (step : PathStep) → i < length path → step ≡ get_or path i step → drop i path ≡ step ∷ drop (i + 1) path
+pub steps_from : (path : List PathStep) (i : ℕ) (step : PathStep) → i < length path → step ≡ get_or path i step
+    → drop i path ≡ step ∷ drop (i + 1) path
 steps_from path i step inside is = drop_more path i step inside ∙ ap (λ (s : PathStep). s ∷ drop (i + 1) path) (sym is)
 
 -- ---- members
@@ -83,7 +90,7 @@ in_front [] ys x m = absurd m
 in_front (z ∷ zs) ys x (inl e) = inl e
 in_front (z ∷ zs) ys x (inr m) = inr (in_front zs ys x m)
 
--- so is a member of the second
+-- a member of the second of two lists is one of both together
 in_back : {A : Type 0} (xs ys : List A) (x : A) → Member x ys → Member x (xs ++ ys)
 in_back [] ys x m = m
 in_back (z ∷ zs) ys x m = inr (in_back zs ys x m)
@@ -99,17 +106,20 @@ in_either {A} (z ∷ zs) ys x (inr m) = go (in_either zs ys x m)
     go (inr b) = inr b
 
 -- a member of what one member of a list gives is a member of what all of them give
-member_flat : {A B : Type 0} (f : A → List B) (xs : List A) (x : A) (y : B) → Member x xs → Member y (f x) → Member y (flat_map f xs)
+member_flat : {A B : Type 0} (f : A → List B) (xs : List A) (x : A) (y : B) → Member x xs → Member y (f x)
+    → Member y (flat_map f xs)
 member_flat f [] x y m n = absurd m
 member_flat {A} f (z ∷ zs) x y (inl e) n = in_front (f z) (flat_map f zs) y (subst (λ (a : A). Member y (f a)) e n)
 member_flat f (z ∷ zs) x y (inr m) n = in_back (f z) (flat_map f zs) y (member_flat f zs x y m n)
 
 -- a member of what all members of a list give comes from one of them
-flat_member : {A B : Type 0} (f : A → List B) (xs : List A) (y : B) → Member y (flat_map f xs) → (x : A) × Member x xs × Member y (f x)
+flat_member : {A B : Type 0} (f : A → List B) (xs : List A) (y : B) → Member y (flat_map f xs)
+    → (x : A) × Member x xs × Member y (f x)
 flat_member f [] y m = absurd m
 flat_member {A} f (z ∷ zs) y m = go (in_either (f z) (flat_map f zs) y m) (λ n. flat_member f zs y n)
   where
-    go : Member y (f z) ⊎ Member y (flat_map f zs) → (Member y (flat_map f zs) → (x : A) × Member x zs × Member y (f x)) → (x : A) × Member x (z ∷ zs) × Member y (f x)
+    go : Member y (f z) ⊎ Member y (flat_map f zs) → (Member y (flat_map f zs) → (x : A) × Member x zs × Member y (f x))
+        → (x : A) × Member x (z ∷ zs) × Member y (f x)
     go (inl a) rest = (z, inl refl, a)
     go (inr b) rest = let r = rest b in (r.0, inr r.1, r.2)
 
@@ -124,7 +134,8 @@ pub any_member : {A : Type 0} (p : A → Bool) (xs : List A) → list_any p xs �
 any_member p [] e = absurd (cc (e))
 any_member {A} p (x ∷ xs) e = go (p x) refl (λ h. any_member p xs h)
   where
-    go : (b : Bool) → p x ≡ b → (list_any p xs ≡ true → (y : A) × Member y xs × (p y ≡ true)) → (y : A) × Member y (x ∷ xs) × (p y ≡ true)
+    go : (b : Bool) → p x ≡ b → (list_any p xs ≡ true → (y : A) × Member y xs × (p y ≡ true))
+        → (y : A) × Member y (x ∷ xs) × (p y ≡ true)
     go true h rest = (x, inl refl, h)
     go false h rest = let r = rest (sym (ap (λ (t : Bool). t || list_any p xs) h) ∙ e) in (r.0, inr r.1, r.2)
 
@@ -141,11 +152,13 @@ member_any p (y ∷ ys) x (inr m) h = ap (λ (t : Bool). p y || t) (member_any p
 -- ---- a step
 
 -- the rows that pass a test are those of the boxes whose rows pass it
-rows_filter : (p : RootBox → Bool) (ps : List PlacedBox) → filter p (map row_of ps) ≡ map row_of (filter (λ (b : PlacedBox). p (row_of b)) ps)
+rows_filter : (p : RootBox → Bool) (ps : List PlacedBox)
+    → filter p (map row_of ps) ≡ map row_of (filter (λ (b : PlacedBox). p (row_of b)) ps)
 rows_filter p [] = refl
 rows_filter p (x ∷ xs) = go (p (row_of x)) (rows_filter p xs)
   where
-    go : (t : Bool) → filter p (map row_of xs) ≡ map row_of (filter (λ (b : PlacedBox). p (row_of b)) xs) → cond t (row_of x ∷ filter p (map row_of xs)) (filter p (map row_of xs)) ≡ map row_of (cond t (x ∷ filter (λ (b : PlacedBox). p (row_of b)) xs) (filter (λ (b : PlacedBox). p (row_of b)) xs))
+    go : (t : Bool) → filter p (map row_of xs) ≡ map row_of (filter (λ (b : PlacedBox). p (row_of b)) xs)
+        → cond t (row_of x ∷ filter p (map row_of xs)) (filter p (map row_of xs)) ≡ map row_of (cond t (x ∷ filter (λ (b : PlacedBox). p (row_of b)) xs) (filter (λ (b : PlacedBox). p (row_of b)) xs))
     go true e = ap (λ (rs : List RootBox). row_of x ∷ rs) e
     go false e = e
 
@@ -153,7 +166,9 @@ rows_filter p (x ∷ xs) = go (p (row_of x)) (rows_filter p xs)
 rows_one : (n : ℕ) (ps : List PlacedBox) → take 1 (drop n (map row_of ps)) ≡ map row_of (take 1 (drop n ps))
 rows_one zero [] = refl
 rows_one zero (x ∷ xs) = refl
-rows_one (suc n) [] = ap (take 1) (drop_all (suc n) [] (omega arith)) ∙ sym (ap (λ (ps : List PlacedBox). map row_of (take 1 ps)) (drop_all (suc n) [] (omega arith)))
+rows_one (suc n) [] =
+    ap (take 1) (drop_all (suc n) [] (omega arith))
+    ∙ sym (ap (λ (ps : List PlacedBox). map row_of (take 1 ps)) (drop_all (suc n) [] (omega arith)))
 rows_one (suc n) (x ∷ xs) = rows_one n xs
 
 -- the rows that a step's number leaves are those of the boxes that it leaves
@@ -163,10 +178,13 @@ rows_nth (Some k) ps = rows_one (k - 1) ps
 
 -- a step matches the rows of the boxes that it matches
 step_rows : (step : PathStep) (ps : List PlacedBox) → row_matched step (map row_of ps) ≡ map row_of (matched step ps)
-step_rows step ps = ap (nth_of step.nth) (rows_filter (λ (r : RootBox). bytes_eq r.kind step.kind) ps) ∙ rows_nth step.nth (filter (λ (b : PlacedBox). bytes_eq b.box.kind step.kind) ps)
+step_rows step ps =
+    ap (nth_of step.nth) (rows_filter (λ (r : RootBox). bytes_eq r.kind step.kind) ps)
+    ∙ rows_nth step.nth (filter (λ (b : PlacedBox). bytes_eq b.box.kind step.kind) ps)
 
--- they stand where all do
-step_stands : (P : PlacedBox → Type 0) (step : PathStep) (ps : List PlacedBox) → AllByRecursion P ps → AllByRecursion P (matched step ps)
+-- the boxes that a step matches stand where all do
+step_stands : (P : PlacedBox → Type 0) (step : PathStep) (ps : List PlacedBox) → AllByRecursion P ps
+    → AllByRecursion P (matched step ps)
 step_stands P step ps h = go step.nth
   where
     passing : AllByRecursion P (filter (λ (b : PlacedBox). bytes_eq b.box.kind step.kind) ps)
@@ -184,15 +202,20 @@ pub record OnRows (file : List ℕ) (rows : List RootBox) (b : PlacedBox) : Type
   pub stands : Stands file b
 
 -- each box on a path below boxes that stand in the file has its row among the rows on the path
-pub path_rows : (file : List ℕ) → AreBytes file → length file < 2 ^ 62 → (ps : List PlacedBox) (steps : List PathStep) (b : PlacedBox) → OnPath ps steps b → AllByRecursion (Stands file) ps → OnRows file (on_rows file (map row_of ps) steps) b
+pub path_rows : (file : List ℕ) → AreBytes file → length file < 2 ^ 62
+    → (ps : List PlacedBox) (steps : List PathStep) (b : PlacedBox) → OnPath ps steps b
+    → AllByRecursion (Stands file) ps → OnRows file (on_rows file (map row_of ps) steps) b
 path_rows file bytes fits ps steps b (last _ step _ c) h =
     let m : Member b (matched step ps) = to_member (matched step ps) b c in
-    record { row = subst (Member (row_of b)) (sym (step_rows step ps)) (member_map row_of (matched step ps) b m); stands = all_member (Stands file) (matched step ps) b (step_stands (Stands file) step ps h) m }
+    record
+    { row = subst (Member (row_of b)) (sym (step_rows step ps)) (member_map row_of (matched step ps) b m); stands = all_member (Stands file) (matched step ps) b (step_stands (Stands file) step ps h) m }
 path_rows file bytes fits ps steps b (below _ step next more _ parent children enters c has on) h =
     let m : Member parent (matched step ps) = to_member (matched step ps) parent c in
-    let s : Stands file parent = all_member (Stands file) (matched step ps) parent (step_stands (Stands file) step ps h) m in
+    let s : Stands file parent =
+    all_member (Stands file) (matched step ps) parent (step_stands (Stands file) step ps h) m in
     let k : KidsAre file parent children = kids_are file parent children bytes fits s has in
-    let rest : OnRows file (on_rows file (map row_of children) (next ∷ more)) b = path_rows file bytes fits children (next ∷ more) b on k.stand in
+    let rest : OnRows file (on_rows file (map row_of children) (next ∷ more)) b =
+    path_rows file bytes fits children (next ∷ more) b on k.stand in
     let each : RootBox → List RootBox = λ (p : RootBox). on_rows file (kids file p) (next ∷ more) in
     let rows : List RootBox = row_matched step (map row_of ps) in
     record {
@@ -205,11 +228,14 @@ path_rows file bytes fits ps steps b (below _ step next more _ parent children e
     }
 
 -- each row on a path below boxes that stand in the file is that of a box on the path
-pub rows_path : (file : List ℕ) → AreBytes file → length file < 2 ^ 62 → (steps : List PathStep) (ps : List PlacedBox) (r : RootBox) → AllByRecursion (Stands file) ps → Member r (on_rows file (map row_of ps) steps) → HasBox file ps steps r
+pub rows_path : (file : List ℕ) → AreBytes file → length file < 2 ^ 62
+    → (steps : List PathStep) (ps : List PlacedBox) (r : RootBox) → AllByRecursion (Stands file) ps
+    → Member r (on_rows file (map row_of ps) steps) → HasBox file ps steps r
 rows_path file bytes fits [] ps r h m = absurd m
 rows_path file bytes fits (step ∷ []) ps r h m =
     let f = map_member row_of (matched step ps) r (subst (Member r) (step_rows step ps) m) in
-    record { box = f.0; on = last ps step f.0 (from_member (matched step ps) f.0 f.1); is = f.2; stands = all_member (Stands file) (matched step ps) f.0 (step_stands (Stands file) step ps h) f.1 }
+    record
+    { box = f.0; on = last ps step f.0 (from_member (matched step ps) f.0 f.1); is = f.2; stands = all_member (Stands file) (matched step ps) f.0 (step_stands (Stands file) step ps h) f.1 }
 rows_path file bytes fits (step ∷ next ∷ more) ps r h m = by (is_entered step.kind) refl m (λ children all n. rows_path file bytes fits (next ∷ more) children r all n)
   where
     each : RootBox → List RootBox
@@ -222,10 +248,16 @@ rows_path file bytes fits (step ∷ next ∷ more) ps r h m = by (is_entered ste
         → HasBox file ps (step ∷ next ∷ more) r
     by false e n rec = absurd n
     by true e n rec =
-        let f = flat_member (λ (p : RootBox). on_rows file (kids file p) (next ∷ more)) (row_matched step (map row_of ps)) r n in
+        let f =
+        flat_member (λ (p : RootBox). on_rows file (kids file p) (next ∷ more))
+        (row_matched step (map row_of ps)) r n in
         let p = map_member row_of (matched step ps) f.0 (subst (Member f.0) (step_rows step ps) f.1) in
-        let s : Stands file p.0 = all_member (Stands file) (matched step ps) p.0 (step_stands (Stands file) step ps h) p.1 in
+        let s : Stands file p.0 =
+        all_member (Stands file) (matched step ps) p.0 (step_stands (Stands file) step ps h) p.1 in
         let c = some_children file p.0 bytes fits s in
         let k : KidsAre file p.0 c.0 = kids_are file p.0 c.0 bytes fits s c.1 in
-        let b : HasBox file c.0 (next ∷ more) r = rec c.0 k.stand (subst (λ (rs : List RootBox). Member r (on_rows file rs (next ∷ more))) (ap (kids file) p.2 ∙ k.rows) f.2) in
-        record { box = b.box; on = below ps step next more b.box p.0 c.0 e (from_member (matched step ps) p.0 p.1) c.1 b.on; is = b.is; stands = b.stands }
+        let b : HasBox file c.0 (next ∷ more) r =
+        rec c.0 k.stand
+        (subst (λ (rs : List RootBox). Member r (on_rows file rs (next ∷ more))) (ap (kids file) p.2 ∙ k.rows) f.2) in
+        record
+        { box = b.box; on = below ps step next more b.box p.0 c.0 e (from_member (matched step ps) p.0 p.1) c.1 b.on; is = b.is; stands = b.stands }

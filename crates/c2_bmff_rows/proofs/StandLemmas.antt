@@ -20,12 +20,17 @@ form_boxes [] f = tt
 form_boxes (b ∷ bs) f = (first_box b bs f, form_boxes bs (other_boxes b bs f))
 
 -- boxes that stand one after the other in a file
-pub all_stand : (file : List ℕ) (at : ℕ) (boxes : List Box) (tail : List ℕ) → AllByRecursion IsBox boxes → at ≤ length file → drop at file ≡ flat_map box_bytes boxes ++ tail → AllByRecursion (Stands file) (placed_from at boxes)
+pub all_stand : (file : List ℕ) (at : ℕ) (boxes : List Box) (tail : List ℕ) → AllByRecursion IsBox boxes
+    → at ≤ length file → drop at file ≡ flat_map box_bytes boxes ++ tail
+    → AllByRecursion (Stands file) (placed_from at boxes)
 all_stand file at [] tail h inside e = tt
 all_stand file at (b ∷ bs) tail h inside e =
     let size : length (box_bytes b) ≡ box_len b = bytes_size b h.0 in
-    let here : drop at file ≡ box_bytes b ++ (flat_map box_bytes bs ++ tail) = e ∙ append_assoc (box_bytes b) (flat_map box_bytes bs) tail in
-    let total : length file - at ≡ box_len b + length (flat_map box_bytes bs ++ tail) = sym (length-drop at file) ∙ ap length here ∙ length-append (box_bytes b) (flat_map box_bytes bs ++ tail) ∙ ap (λ n. n + length (flat_map box_bytes bs ++ tail)) size in
+    let here : drop at file ≡ box_bytes b ++ (flat_map box_bytes bs ++ tail) =
+    e ∙ append_assoc (box_bytes b) (flat_map box_bytes bs) tail in
+    let total : length file - at ≡ box_len b + length (flat_map box_bytes bs ++ tail) =
+    sym (length-drop at file) ∙ ap length here ∙ length-append (box_bytes b) (flat_map box_bytes bs ++ tail)
+    ∙ ap (λ n. n + length (flat_map box_bytes bs ++ tail)) size in
     let next : drop (at + box_len b) file ≡ flat_map box_bytes bs ++ tail = sym (drop-drop (box_len b) at file) ∙ ap (drop (box_len b)) here ∙ drop_at (box_bytes b) (flat_map box_bytes bs ++ tail) (box_len b) size in (
       record { is_box = h.0; tail = flat_map box_bytes bs ++ tail; bytes = here; inside = omega (arith, total, inside) },
       all_stand file (at + box_len b) bs tail h.1 (omega (arith, total, inside)) next,
@@ -34,7 +39,8 @@ all_stand file at (b ∷ bs) tail h inside e =
 -- ---- the rows of boxes inside another
 
 -- one box and those after it
-pub child_here : (n at : ℕ) (rest : List ℕ) → 0 < length rest → length rest ≤ n → child_rows n at rest ≡ cond (is_child rest) (joined (Some (child_row at rest)) (child_rows (n - 1) (at + stated_len rest) (drop (stated_len rest) rest))) None
+pub child_here : (n at : ℕ) (rest : List ℕ) → 0 < length rest → length rest ≤ n
+    → child_rows n at rest ≡ cond (is_child rest) (joined (Some (child_row at rest)) (child_rows (n - 1) (at + stated_len rest) (drop (stated_len rest) rest))) None
 child_here n at [] some few = absurd (omega arith)
 child_here zero at (x ∷ xs) some few = absurd (omega arith)
 child_here (suc n) at (x ∷ xs) some few = let e : n ≡ suc n - 1 = omega arith in ap (λ (m : ℕ). cond (is_child (x ∷ xs)) (joined (Some (child_row at (x ∷ xs))) (child_rows m (at + stated_len (x ∷ xs)) (drop (stated_len (x ∷ xs)) (x ∷ xs)))) None) e
@@ -55,12 +61,18 @@ record Told (b : Box) (rest : List ℕ) (tail : List ℕ) : Type 0 where
   pub others : drop (stated_len rest) rest ≡ tail
 
 -- at the front of its bytes, a box that says its size is told with its length, its header and its type
-told : (b : Box) (rest tail : List ℕ) → IsSizedBox b → AreBytes rest → length rest < 2 ^ 64 → rest ≡ box_bytes b ++ tail → Told b rest tail
+told : (b : Box) (rest tail : List ℕ) → IsSizedBox b → AreBytes rest → length rest < 2 ^ 64 → rest ≡ box_bytes b ++ tail
+    → Told b rest tail
 told b rest tail s bytes fits e =
-    let none : box_fault 0 rest ≡ None = ap (box_fault 0) e ∙ box_passes b.form b.kind b.payload tail s.is_box (λ t. absurd (let wrong = sym t ∙ s.sized in cc (wrong))) 0 in
-    let c : BeginsWith rest (stated_header_len rest) (stated_len rest) (stated_kind rest) (stated_size rest == 0) = box_there 0 rest bytes fits none in
-    let once = box_once b c.box tail (drop (stated_len rest) rest) s.is_box c.is_box (λ t. absurd (let wrong = sym t ∙ s.sized in cc (wrong))) (λ t. drop_all (stated_len rest) rest (let l = c.ends (sym c.end_is ∙ t) in omega (arith, l))) (sym e ∙ c.bytes) in
-    let sized : (stated_size rest == 0) ≡ false = sym c.end_is ∙ ap (λ (x : Box). is_to_end x.form) (sym once.0) ∙ s.sized in
+    let none : box_fault 0 rest ≡ None =
+    ap (box_fault 0) e
+    ∙ box_passes b.form b.kind b.payload tail s.is_box (λ t. absurd (let wrong = sym t ∙ s.sized in cc (wrong))) 0 in
+    let c : BeginsWith rest (stated_header_len rest) (stated_len rest) (stated_kind rest) (stated_size rest == 0) =
+    box_there 0 rest bytes fits none in
+    let once =
+    box_once b c.box tail (drop (stated_len rest) rest) s.is_box c.is_box (λ t. absurd (let wrong = sym t ∙ s.sized in cc (wrong))) (λ t. drop_all (stated_len rest) rest (let l = c.ends (sym c.end_is ∙ t) in omega (arith, l))) (sym e ∙ c.bytes) in
+    let sized : (stated_size rest == 0) ≡ false =
+    sym c.end_is ∙ ap (λ (x : Box). is_to_end x.form) (sym once.0) ∙ s.sized in
     record {
       child = ap (λ f. not (is_some f) && not (stated_size rest == 0)) none ∙ ap not sized;
       len = sym c.length_is ∙ ap box_len (sym once.0);
@@ -70,15 +82,24 @@ told b rest tail s bytes fits e =
     }
 
 -- the rows of boxes that fill these bytes
-pub rows_told : (boxes : List Box) (n at : ℕ) (rest : List ℕ) → AllByRecursion IsSizedBox boxes → AreBytes rest → length rest < 2 ^ 64 → rest ≡ flat_map box_bytes boxes → length rest ≤ n → child_rows n at rest ≡ Some (map row_of (placed_from at boxes))
+pub rows_told : (boxes : List Box) (n at : ℕ) (rest : List ℕ) → AllByRecursion IsSizedBox boxes → AreBytes rest
+    → length rest < 2 ^ 64 → rest ≡ flat_map box_bytes boxes → length rest ≤ n
+    → child_rows n at rest ≡ Some (map row_of (placed_from at boxes))
 rows_told [] n at rest s bytes fits e few = ap (child_rows n at) e ∙ child_end n at
 rows_told (b ∷ bs) n at rest s bytes fits e few =
     let t : Told b rest (flat_map box_bytes bs) = told b rest (flat_map box_bytes bs) s.0 bytes fits e in
-    let size : length rest ≡ box_len b + length (flat_map box_bytes bs) = ap length e ∙ length-append (box_bytes b) (flat_map box_bytes bs) ∙ ap (λ k. k + length (flat_map box_bytes bs)) (bytes_size b s.0.is_box) in
+    let size : length rest ≡ box_len b + length (flat_map box_bytes bs) =
+    ap length e ∙ length-append (box_bytes b) (flat_map box_bytes bs)
+    ∙ ap (λ k. k + length (flat_map box_bytes bs)) (bytes_size b s.0.is_box) in
     let least : 8 ≤ box_len b = least_len b in
-    let left : length (drop (stated_len rest) rest) ≡ length rest - box_len b = length-drop (stated_len rest) rest ∙ ap (λ k. length rest - k) t.len in
-    child_here n at rest (omega (arith, size, least)) few ∙ ap (λ x. cond x (joined (Some (child_row at rest)) (child_rows (n - 1) (at + stated_len rest) (drop (stated_len rest) rest))) None) t.child
-    ∙ ap (λ (m : Option (List RootBox)). joined (Some (child_row at rest)) m) (rows_told bs (n - 1) (at + stated_len rest) (drop (stated_len rest) rest) s.1 (bytes-drop (stated_len rest) rest bytes) (omega (arith, left, fits)) t.others (omega (arith, left, size, least, few)))
+    let left : length (drop (stated_len rest) rest) ≡ length rest - box_len b =
+    length-drop (stated_len rest) rest ∙ ap (λ k. length rest - k) t.len in
+    child_here n at rest (omega (arith, size, least)) few
+    ∙ ap
+    (λ x. cond x (joined (Some (child_row at rest)) (child_rows (n - 1) (at + stated_len rest) (drop (stated_len rest) rest))) None)
+    t.child
+    ∙ ap (λ (m : Option (List RootBox)). joined (Some (child_row at rest)) m)
+    (rows_told bs (n - 1) (at + stated_len rest) (drop (stated_len rest) rest) s.1 (bytes-drop (stated_len rest) rest bytes) (omega (arith, left, fits)) t.others (omega (arith, left, size, least, few)))
     ∙ ap (λ k. Some (child_row at rest ∷ map row_of (placed_from (at + k) bs))) t.len
     ∙ ap (λ (r : RootBox). Some (r ∷ map row_of (placed_from (at + box_len b) bs))) row_is
   where
@@ -96,8 +117,10 @@ rows_told (b ∷ bs) n at rest s bytes fits e few =
     row_is : child_row at rest ≡ row_of (record { at = at; box = b })
     row_is =
         let t : Told b rest (flat_map box_bytes bs) = told b rest (flat_map box_bytes bs) s.0 bytes fits e in
-        ap (λ k. row k (stated_header_len rest) (stated_kind rest) false) t.len ∙ ap (λ k. row (box_len b) k (stated_kind rest) false) t.header
-        ∙ ap (λ (k : List ℕ). row (box_len b) (header_len b.form) k false) t.kind ∙ ap (λ (x : Bool). row (box_len b) (header_len b.form) b.kind x) (sym s.0.sized)
+        ap (λ k. row k (stated_header_len rest) (stated_kind rest) false) t.len
+        ∙ ap (λ k. row (box_len b) k (stated_kind rest) false) t.header
+        ∙ ap (λ (k : List ℕ). row (box_len b) (header_len b.form) k false) t.kind
+        ∙ ap (λ (x : Bool). row (box_len b) (header_len b.form) b.kind x) (sym s.0.sized)
 
 -- boxes that fill these bytes
 pub record Fills (rest : List ℕ) : Type 0 where
@@ -106,12 +129,14 @@ pub record Fills (rest : List ℕ) : Type 0 where
   pub bytes : rest ≡ flat_map box_bytes boxes
 
 -- one more before others that are there
-joined_some : (r : RootBox) (m : Option (List RootBox)) (rows : List RootBox) → joined (Some r) m ≡ Some rows → (more : List RootBox) × (m ≡ Some more)
+joined_some : (r : RootBox) (m : Option (List RootBox)) (rows : List RootBox) → joined (Some r) m ≡ Some rows
+    → (more : List RootBox) × (m ≡ Some more)
 joined_some r None rows e = absurd (cc (e))
 joined_some r (Some more) rows e = (more, refl)
 
 -- where there are rows there are boxes
-pub told_filled : (n at : ℕ) (rest : List ℕ) (rows : List RootBox) → AreBytes rest → length rest < 2 ^ 64 → child_rows n at rest ≡ Some rows → Fills rest
+pub told_filled : (n at : ℕ) (rest : List ℕ) (rows : List RootBox) → AreBytes rest → length rest < 2 ^ 64
+    → child_rows n at rest ≡ Some rows → Fills rest
 told_filled n at [] rows bytes fits e = record { boxes = []; sized = tt; bytes = refl }
 told_filled zero at (x ∷ xs) rows bytes fits e = absurd (cc (e))
 told_filled (suc n) at (x ∷ xs) rows bytes fits e =
@@ -137,7 +162,8 @@ told_filled (suc n) at (x ∷ xs) rows bytes fits e =
     by None false fa za go =
         let c : BeginsWith (x ∷ xs) (stated_header_len (x ∷ xs)) len (stated_kind (x ∷ xs)) (stated_size (x ∷ xs) == 0) =
         box_there 0 (x ∷ xs) bytes fits fa in
-        let more = joined_some (child_row at (x ∷ xs)) (child_rows n (at + len) left) rows (sym (ap₂ tests fa za) ∙ e) in
+        let more =
+        joined_some (child_row at (x ∷ xs)) (child_rows n (at + len) left) rows (sym (ap₂ tests fa za) ∙ e) in
         let others : Fills left = go more.0 more.1 in
         record {
           boxes = c.box ∷ others.boxes;
@@ -170,7 +196,7 @@ inner file p s =
     }
 
 -- sized boxes are boxes
-sized_boxes : (bs : List Box) → AllByRecursion IsSizedBox bs → AllByRecursion IsBox bs
+pub sized_boxes : (bs : List Box) → AllByRecursion IsSizedBox bs → AllByRecursion IsBox bs
 sized_boxes [] s = tt
 sized_boxes (b ∷ bs) s = (s.0.is_box, sized_boxes bs s.1)
 
@@ -203,7 +229,9 @@ kids_are file p children bytes fits s (filled boxes f) =
           ap or_none
           (rows_told boxes (length payload) start payload f.forms (payload_bytes file p bytes) (payload_small file p fits)
           (i.payload ∙ f.bytes) (omega arith));
-      stand = all_stand file start boxes i.tail (sized_boxes boxes f.forms) i.inside (i.bytes ∙ ap (λ (ys : List ℕ). ys ++ i.tail) f.bytes);
+      stand =
+          all_stand file start boxes i.tail (sized_boxes boxes f.forms) i.inside
+          (i.bytes ∙ ap (λ (ys : List ℕ). ys ++ i.tail) f.bytes);
     }
 kids_are file p children bytes fits s (unfilled never) = record {
   rows = go (child_rows (length payload) start payload) refl;
@@ -226,7 +254,8 @@ kids_are file p children bytes fits s (unfilled never) = record {
         absurd (never fills.boxes (record { bytes = sym i.payload ∙ fills.bytes; forms = fills.sized }))
 
 -- each box has children, maybe none
-pub some_children : (file : List ℕ) (p : PlacedBox) → AreBytes file → length file < 2 ^ 62 → Stands file p → (children : List PlacedBox) × HasChildren p children
+pub some_children : (file : List ℕ) (p : PlacedBox) → AreBytes file → length file < 2 ^ 62 → Stands file p
+    → (children : List PlacedBox) × HasChildren p children
 some_children file p bytes fits s = go (child_rows (length p.box.payload) 0 p.box.payload) refl
   where
     i : Inner file p
@@ -236,8 +265,11 @@ some_children file p bytes fits s = go (child_rows (length p.box.payload) 0 p.bo
     size = omega (arith, s.inside)
 
     are : AreBytes p.box.payload
-    are = subst AreBytes i.payload (bytes-take (box_len p.box - header_len p.box.form) (drop (p.at + header_len p.box.form) file) (bytes-drop (p.at + header_len p.box.form) file bytes))
+    are =
+        subst AreBytes i.payload
+        (bytes-take (box_len p.box - header_len p.box.form) (drop (p.at + header_len p.box.form) file) (bytes-drop (p.at + header_len p.box.form) file bytes))
 
-    go : (m : Option (List RootBox)) → child_rows (length p.box.payload) 0 p.box.payload ≡ m → (children : List PlacedBox) × HasChildren p children
+    go : (m : Option (List RootBox)) → child_rows (length p.box.payload) 0 p.box.payload ≡ m
+        → (children : List PlacedBox) × HasChildren p children
     go (Some rows) e = let fills : Fills p.box.payload = told_filled (length p.box.payload) 0 p.box.payload rows are (omega (arith, size, fits)) e in (placed_from (p.at + header_len p.box.form) fills.boxes, filled fills.boxes (record { bytes = fills.bytes; forms = fills.sized }))
     go None e = ([], unfilled (λ boxes f. let wrong = sym e ∙ rows_told boxes (length p.box.payload) 0 p.box.payload f.forms are (omega (arith, size, fits)) f.bytes (omega arith) in cc (wrong)))

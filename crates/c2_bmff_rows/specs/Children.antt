@@ -9,7 +9,7 @@ use Rattle.c2_bmff_rows.specs.declared.row.RootBox.{RootBox}
 abbrev pub is_child : List ℕ → Bool
 is_child rest = not (is_some (box_fault 0 rest)) && not (stated_size rest == 0)
 
--- its row, where it begins at this place
+-- the row of the box at the front of these bytes, which begin at this place
 abbrev pub child_row : ℕ → List ℕ → RootBox
 child_row at rest = record {
   start = at;
@@ -29,7 +29,7 @@ child_rows (suc n) at (x ∷ xs) =
     (child_rows n (at + stated_len (x ∷ xs)) (drop (stated_len (x ∷ xs)) (x ∷ xs)))
     else None
 
--- these rows, and none where there is no list
+-- the rows of a list, and no rows where there is no list
 abbrev pub or_none : Option (List RootBox) → List RootBox
 or_none None = []
 or_none (Some rows) = rows

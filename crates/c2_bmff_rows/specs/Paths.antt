@@ -38,13 +38,13 @@ pub record HasBox (file : List ℕ) (ps : List PlacedBox) (steps : List PathStep
   pub is : r ≡ row_of box
   pub stands : Stands file box
 
--- So it is with each row on a path below boxes that stand in a file of bytes.
+-- Each row on a path below boxes that stand in a file of bytes has its box, which is on the path and stands in the file.
 abbrev pub RowsHaveBoxes : Type 0
 RowsHaveBoxes = (file : List ℕ) (ps : List PlacedBox) (steps : List PathStep) (r : RootBox)
     → All (λ b. b < 2 ^ 8) file → length file < 2 ^ 62 → AllByRecursion (Stands file) ps
     → Contains (on_rows file (map row_of ps) steps) r → HasBox file ps steps r
 
--- And each box on such a path has its row on it.
+-- Each box on a path below boxes that stand in a file of bytes has its row on the path.
 abbrev pub BoxesHaveRows : Type 0
 BoxesHaveRows = (file : List ℕ) (ps : List PlacedBox) (steps : List PathStep) (b : PlacedBox)
     → All (λ b. b < 2 ^ 8) file → length file < 2 ^ 62 → AllByRecursion (Stands file) ps

@@ -14,7 +14,7 @@ row_of b = record {
   to_end = is_to_end b.box.form;
 }
 
--- of boxes that stand one after the other from the start of the file
+-- the rows of boxes that stand one after the other from the start of the file
 abbrev pub rows_of : List Box → List RootBox
 rows_of boxes = map row_of (placed_from 0 boxes)
 

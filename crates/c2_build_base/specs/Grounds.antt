@@ -4,11 +4,8 @@ use Rattle.std.specs.declared.option.Option.{Option}
 use Rattle.std.specs.declared.option.Option.TheVariants.{Some, None}
 use Rattle.std.specs.declared.result.Result.TheVariants.{Ok}
 use Rattle.c2_base.specs.declared.values.Question.{Question}
-use Rattle.c2_base.specs.declared.media.Found.{Found}
 use Rattle.c2_spec.specs.C2pa.Manifest.{IsStoreOf}
-use Rattle.c2_spec.specs.Container.{IsLocated}
 use Rattle.c2_spec.specs.Jumbf.Tree.{Tree}
-use Rattle.c2_spec.specs.Located.{Located, absent, here}
 use Rattle.c2_spec.specs.declared.digest.Alg.{Alg}
 use Rattle.c2_spec.specs.declared.panel.Verdict.{Verdict}
 use Rattle.c2_rules.specs.Readings.{Reading}
@@ -16,37 +13,32 @@ use Rattle.c2_rules.specs.Validated.{IsAnswer}
 use Rattle.c2_rules.specs.declared.answer.Answer.TheVariants as Answer
 use Rattle.c2_rules.specs.declared.answer.Failing.{Failing}
 use Rattle.c2_rules.specs.declared.answer.Summary.{Summary}
-use Rattle.c2_container.specs.Contained.{HasRootsInside, IsContainerOf}
+use Rattle.c2_container.specs.Contained.{IsSaid, IsWithin}
+use Rattle.c2_container.specs.declared.types.Contained.{Contained}
 use Rattle.c2_definition.specs.declared.types.Definition.{Definition}
 use Rattle.c2_layout.specs.Parts.{IsContent}
-use Rattle.c2_new_store_spec.specs.Store.{Content}
+use Rattle.c2_new_file_spec.specs.Store.{Content}
 use Rattle.c2_layout.specs.declared.carried.Carried.{Carried}
-use Rattle.c2_parent_spec.specs.Parents.{IsContentOver}
-use Rattle.c2_parent_spec.specs.Refusing.{has_manifest, redaction_refusal}
+use Rattle.c2_new_file_spec.specs.Parents.{IsContentOver}
+use Rattle.c2_new_file_spec.specs.Refusing.{has_manifest, redaction_refusal}
 use Rattle.c2_without_store.specs.Clears.{cleared}
 use Rattle.c2_without_store.specs.declared.clearing.Clearing.{Clearing}
 use Rattle.c2_new_file_spec.specs.Bases.{IsLeft}
+use Rattle.c2_build_place.specs.PointsLeft.{clearing_for}
 use Rattle.c2_build_refusals.specs.Kinds.{WithoutFault}
 use Rattle.c2_build_refusals.specs.Stages.{IsMediaStage, KindAsks, MediaKind, fresh, stored}
 use Rattle.c2_build_refusals.specs.Refusals.{Ground, first_refusal, label_tests, redaction_tests}
 use Rattle.c2_build_refusals.specs.declared.error.BuildError.{BuildError}
 use Rattle.c2_build_refusals.specs.declared.error.BuildError.TheVariants.{ParentFails}
 use Rattle.c2_build_refusals.specs.declared.types.BuildBase.{BuildBase}
-use Rattle.c2_build_base.specs.declared.media.MediaFile.{MediaFile}
 use Rattle.c2_build_base.specs.declared.media.MediaRead.{MediaRead}
 use Rattle.c2_build_base.specs.declared.media.OlderStore.{OlderStore}
 
 -- ---- the media
 
--- what was found in a media file: this store in its range, or none
-abbrev pub located_as : Option Found → Located
-located_as None = absent
-located_as (Some f) = here f.start f.length f.store
-
--- What was found of a media file is its container, and its store or that it has none.
-pub record IsFoundIn (file : List ℕ) (m : MediaFile) : Type 0 where
-  pub container : IsContainerOf file m.container
-  pub located : IsLocated file (located_as m.found)
+-- what was found of a media file is so
+abbrev pub IsFoundIn : List ℕ → Contained → Type 0
+IsFoundIn file m = IsSaid file (Ok m)
 
 -- a store that was read, or none, is that of this kind of media file
 abbrev pub IsOlder : Option OlderStore → MediaKind → Type 0
@@ -61,7 +53,7 @@ IsClearedTo file (stored start len t) c = IsLeft file start len (cleared c file)
 -- What was read of a media file is this kind.
 pub record IsKind (file : List ℕ) (m : MediaRead) (kind : MediaKind) : Type 0 where
   pub stage : IsMediaStage file (Ok kind)
-  pub container : IsContainerOf file m.container.now
+  pub found : IsFoundIn file m.contained.now
   pub older : IsOlder m.older kind
   pub clears : IsClearedTo file kind m.clearing
 
@@ -70,10 +62,11 @@ abbrev pub HasBoxes : Option OlderStore → Type 0
 HasBoxes None = ⊤
 HasBoxes (Some o) = IsStoreOf o.tree o.store
 
--- What was read of a media file of this length, whatever is known of its bytes: its root boxes lie inside it, and the boxes of its manifests are
--- those of its tree.
+-- What was read of a media file of this length, whatever is known of its bytes: what was found lies inside it, it is cleared of that, and the
+-- boxes of its manifests are those of its tree.
 pub record IsReadIn (len : ℕ) (m : MediaRead) : Type 0 where
-  pub inside : HasRootsInside len m.container.now
+  pub within : IsWithin len m.contained.now
+  pub clears : m.clearing ≡ clearing_for m.contained.now
   pub boxes : HasBoxes m.older
 
 -- Where a panel says this, these questions are asked over a media file of which this was read, where its bytes are known.
@@ -93,16 +86,17 @@ pub record IsGround (hash : List ℕ → List ℕ) (media : List ℕ) (d : Defin
   pub content : IsContent hash d k.carried g.content
   pub manifests : g.manifests ≡ k.manifests
 
--- a ground, whatever is known of the media's bytes
-pub record IsSomeGround (hash : List ℕ → List ℕ) (d : Definition) (k : BuildBase) : Type 0 where
+-- a ground over a media file that is cleared so, whatever is known of its bytes
+pub record IsSomeGround (hash : List ℕ → List ℕ) (d : Definition) (clearing : Clearing) (k : BuildBase) : Type 0 where
   pub content : Content
   pub is : IsContent hash d k.carried content
+  pub clears : k.clearing ≡ clearing
 
 -- a file passed its check
 abbrev pub IsChecked : (Alg → List ℕ → List ℕ) → (Question → Verdict) → List ℕ → Type 0
 IsChecked hash said file = (s : Summary) × IsAnswer hash said file (Answer.Valid s)
 
--- its check refuses it so
+-- the check of a file refuses it with this error
 abbrev pub IsCheckRefusal : (Alg → List ℕ → List ℕ) → (Question → Verdict) → List ℕ → BuildError → Type 0
 IsCheckRefusal hash said file e = (f : Failing) × IsAnswer hash said file (Answer.Failing f) × (e ≡ ParentFails f.code f.uri)
 

@@ -11,8 +11,8 @@ ghost use Rattle.c2_without_store.specs.Clears.{cleared};
 ghost use Rattle.c2_build_refusals.specs.declared.error.BuildError.TheVariants.{LabelTaken};
 ghost use Rattle.c2_spec.specs.C2pa.Manifest.{IsStoreOf, manifests_of};
 ghost use Rattle.c2_spec.specs.Judges.Panel.{panel_says};
-ghost use Rattle.c2_new_store_spec.specs.Built.{HasDigestLen};
-ghost use Rattle.c2_new_store_spec.specs.Store.{NamedManifest, ingredient_assertion, new_alg, parent_ingredient};
+ghost use Rattle.c2_new_file_spec.specs.Built.{HasDigestLen};
+ghost use Rattle.c2_new_file_spec.specs.Store.{NamedManifest, ingredient_assertion, new_alg, parent_ingredient};
 ghost use Rattle.c2_parent.specs.Parents.{AreDigests};
 ghost use Rattle.c2_rules.specs.Readings.{AreReadings, Reading};
 ghost use Rattle.c2_validate.specs.Checked.{IsOpenedFrom, StoreAsks};
@@ -23,7 +23,7 @@ ghost use Rattle.c2_build_base.specs.Grounds.{IsCarriedOver, IsCheckRefusal, IsC
 use crate::media::{MediaRead, OlderStore};
 use c2_base::{NoMemory, Range, Source, Text};
 use c2_build_refusals::{BuildBase, BuildError, fault};
-use c2_chain::{Chain, labels_of_a_store_differ, of_store, one_reading, readings};
+use c2_chain::{Chain, of_store, readings};
 use c2_definition::{Definition, NewAssertion};
 use c2_hash::Hashing;
 use c2_judge::Judge;
@@ -33,13 +33,10 @@ use c2_parent::{
     ParentDigests, carried_boxes, has_manifest, parent_digests, redactions_of, refused_redaction,
     refused_without_store,
 };
-use c2_parent_spec::a_valid_store_is_carried;
 use c2_read_manifests::manifests;
 use c2_spec::Relationship;
 use c2_store::Store;
-use c2_validate::{
-    Checked, Container, OpenedStore, a_store_answers_for_its_file, check, one_opening,
-};
+use c2_validate::{Checked, Container, OpenedStore, a_store_answers_for_its_file, check};
 use c2_without_store::Clearing;
 use std::alloc::Global;
 
@@ -55,7 +52,7 @@ fn fresh_ground(
         definition.now)
         (IsGroundStage hash said file definition.now fresh) result }
     ensures some { (hash : List ℕ → List ℕ) → HasDigestLen (new_alg definition.now) hash
-        → IfOk result (IsSomeGround hash definition.now) }
+        → IfOk result (IsSomeGround hash definition.now clearing) }
     ensures quiet { IfErr result IsQuiet }
 {
     let own = definition.label.as_str();
@@ -107,7 +104,6 @@ pub fn check_parent<A: Source, H: Hashing>(
     ensures panel { HearsPanel says asked_times judge_faults build_heard
         (StoreAsks H.digest_of store.now) judges.old judges.new result }
 {
-    // Only the prover needs this law.
     a_store_answers_for_its_file();
     let checked = match check(alloc, hashing, media, store, judges) {
         Ok(checked) => checked,
@@ -178,12 +174,10 @@ fn over_store<H: Hashing>(
     ensures refused { IfErr result (λ e. (rs : List Reading)
         → AreReadings (manifests_of older.now.tree) rs → IsOverRefusal definition.now rs e) }
     ensures some { IfOk result (IsSomeGround (H.digest_of (new_alg definition.now))
-        definition.now) }
+        definition.now clearing) }
     ensures quiet { IfErr result IsOlderQuiet }
 {
     // Only the prover needs these laws, and the count: it takes from here that the tree is legal.
-    one_reading();
-    labels_of_a_store_differ();
     let _boxes = count(&older.tree);
     let own = definition.label.as_str();
     if has_manifest(chain, own) {
@@ -238,15 +232,11 @@ pub fn grounded<A: Source, H: Hashing>(
         → ComesAs (IsGround (H.digest_of (new_alg definition.now)) bytes definition.now)
         (IsGroundStage H.digest_of said bytes definition.now kind) result) }
     ensures some { IfOk result (IsSomeGround (H.digest_of (new_alg definition.now))
-        definition.now) }
+        definition.now file.now.clearing) }
     ensures reads { ReadsSource A.len A.known A.faults IsAskCause media.old media.new result }
     ensures panel { HearsPanel says asked_times judge_faults build_heard
         (KindHears H.digest_of (A.known media.old) file.now) judges.old judges.new result }
 {
-    // Only the prover needs these laws.
-    one_opening();
-    a_valid_store_is_carried();
-    a_store_answers_for_its_file();
     let Some(older) = &file.older else {
         return fresh_ground(alloc, definition, file.clearing);
     };
@@ -254,7 +244,7 @@ pub fn grounded<A: Source, H: Hashing>(
         Ok(chain) => chain,
         Err(NoMemory) => return Err(BuildError::NoMemory),
     };
-    let store = opened_in(file.container, older.range, &chain);
+    let store = opened_in(&file.contained.container, older.range, &chain);
     match check_parent(alloc, hashing, media, &store, judges) {
         Ok(()) => {}
         Err(error) => return Err(error),

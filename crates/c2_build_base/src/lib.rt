@@ -7,4 +7,4 @@ mod ground;
 mod media;
 
 pub use ground::{check_parent, grounded, opened_in};
-pub use media::{MediaFile, MediaRead, OlderStore, form_of, open_media, read_media};
+pub use media::{MediaRead, OlderStore, open_media, read_media};

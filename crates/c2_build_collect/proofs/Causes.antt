@@ -1,31 +1,35 @@
 -- The causes of errors, from one step of a build that collects to the next.
 use Rattle.std.proofs.Common.{◌≡◌, ◌⊎◌, inl, inr, ℕ, subst}
-use Rattle.c2_build_refusals.proofs.Doing.{more_cause, more_read, unwritten_sink}
+use Rattle.c2_build_refusals.proofs.Doing.{DoesNoMore, more_cause, more_read}
 use Rattle.c2_build_refusals.proofs.Outside.{read_cause}
 use Rattle.c2_build_refusals.specs.Kinds.{ErrorKind, IsReadKind, IsSourceCause, message_effects}
-use Rattle.c2_build_refusals.specs.Sinks.{IsSinkCause}
 use Rattle.c2_build_collect_base.specs.Grounds.{ground_effects}
 use Rattle.c2_build_collect.specs.Answers.{embed_effects, prepare_effects}
 
 -- what is done over both files is done before a file is written
-pub ground_prepares : (Other : Type 0) (m n : ℕ) (k : ErrorKind) → IsSourceCause ground_effects Other m n k → IsSourceCause prepare_effects Other m n k
-ground_prepares = more_cause ground_effects prepare_effects (record { message = λ h. tt; judges = λ h. h; writes = λ h. h; tables = λ h. h; older = λ h. h; other = λ h. h })
+pub ground_prepares : (Other : Type 0) (m n : ℕ) (k : ErrorKind) → IsSourceCause ground_effects Other m n k
+    → IsSourceCause prepare_effects Other m n k
+ground_prepares =
+    more_cause ground_effects prepare_effects
+    (record { message = λ h. tt; judges = λ h. h; writes = λ h. h; tables = λ h. h; older = λ h. h; other = λ h. h })
 
--- and so is what looks at a message
+-- what looks at a message is done before a file is written
 pub message_prepares : (m n : ℕ) (k : ErrorKind) → IsReadKind message_effects m n k → IsReadKind prepare_effects m n k
-message_prepares = more_read message_effects prepare_effects (record { message = λ h. h; judges = λ h. tt; writes = λ h. h; tables = λ h. h; older = λ h. tt; other = λ h. tt })
+message_prepares =
+    more_read message_effects prepare_effects
+    (record { message = λ h. h; judges = λ h. tt; writes = λ h. h; tables = λ h. h; older = λ h. tt; other = λ h. tt })
 
--- so it is by a count that stayed
-pub message_stays : (Other : Type 0) (m n : ℕ) (k : ErrorKind) → n ≡ m → IsReadKind message_effects n n k → IsSourceCause prepare_effects Other m n k
-message_stays Other m n k same h = subst (λ (i : ℕ). IsSourceCause prepare_effects Other i n k) same (read_cause Other prepare_effects n n k (message_prepares n n k h))
+-- what looks at a message, and left the count of faults, is done before a file is written
+pub message_stays : (Other : Type 0) (m n : ℕ) (k : ErrorKind) → n ≡ m → IsReadKind message_effects n n k
+    → IsSourceCause prepare_effects Other m n k
+message_stays Other m n k same h =
+    subst (λ (i : ℕ). IsSourceCause prepare_effects Other i n k) same
+    (read_cause Other prepare_effects n n k (message_prepares n n k h))
 
 -- what is done before a file is written is done by what writes it
-pub prepare_writes : (Other : Type 0) (m n : ℕ) (k : ErrorKind) → IsSourceCause prepare_effects Other m n k → IsSourceCause embed_effects Other m n k
-prepare_writes = more_cause prepare_effects embed_effects (record { message = λ h. h; judges = λ h. h; writes = λ h. tt; tables = λ h. h; older = λ h. h; other = λ h. h })
-
--- it leaves the sink
-pub prepare_sink : (Other : Type 0) (m n : ℕ) (k : ErrorKind) (count : ℕ) → IsSourceCause prepare_effects Other m n k → IsSinkCause count count k
-prepare_sink = unwritten_sink prepare_effects (λ h. h)
+pub prepares : DoesNoMore prepare_effects embed_effects
+prepares =
+    record { message = λ h. h; judges = λ h. h; writes = λ h. tt; tables = λ h. h; older = λ h. h; other = λ h. h }
 
 -- of three sources the first failed, or the last
 pub first_or_third : {A B C : Type 0} → A ⊎ C → A ⊎ (B ⊎ C)

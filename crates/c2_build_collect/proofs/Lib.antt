@@ -1,9 +1,11 @@
-mod Stages
-mod Refused
-mod Drafts
-mod Planned
-mod Due
-mod Unasked
-mod Ended
 mod Causes
+mod Drafts
+mod Due
+mod Ended
+mod Leaving
+mod Planned
 mod Questioned
+mod Refused
+mod Stages
+pub mod TheLaws
+mod Unasked

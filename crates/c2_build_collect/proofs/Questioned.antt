@@ -1,4 +1,6 @@
 -- What is asked of two files behind stages: one list where each stage comes to one thing, and a list where each comes to something.
+use Rattle.c2_validate.proofs.TheLaws.{one_check_asks}
+use Rattle.c2_opening.proofs.TheLaws.{one_opening_file}
 use Rattle.std.proofs.Common.{◌≡◌, ℕ, ◌<◌, ◌^◌, List, [], ◌++◌, refl, sym, ap₂, ◌∙◌, subst}
 use Rattle.std.specs.Prelude.{All, Result, Ok, Err}
 use Rattle.c2_base.specs.declared.values.Question.{Question}
@@ -10,79 +12,84 @@ use Rattle.c2_rules.specs.CheckList.{check_asks}
 use Rattle.c2_rules.specs.Opened.{IsOpened}
 use Rattle.c2_rules.specs.Validated.{CheckAsks, IsAnswer, OpenedAsks}
 use Rattle.c2_rules.specs.declared.answer.Answer.{Answer}
-use Rattle.c2_collect_spec.specs.Order.{CollectRefusal, MediaFile, parent_refusals}
-use Rattle.c2_collect_spec.specs.Outcomes.{After, AskedBehind, AsksThen, HasCheck, IsDefinitionStage, IsMediaStage, IsMessageStage, IsParentStage, PairAsks, SomeCollectMade, SomeCollectPlan, Then, Unless}
-use Rattle.c2_collect_spec.proofs.OneOutcome.{OneLaws, one_media_file}
+use Rattle.c2_collect_spec.specs.Order.{CollectRefusal, MediaFile}
+use Rattle.c2_collect_spec.specs.Outcomes.{After, AskedBehind, AsksThen, HasCheck, IsDefinitionStage, IsMediaStage, IsMessageStage, IsParentStage, PairAsks, SomeCollectMade, SomeCollectPlan, Then}
+use Rattle.c2_collect_spec.proofs.OneOutcome.{OneLaws}
 use Rattle.c2_collect_spec.proofs.SomeOutcome.{opened_as}
-use Rattle.c2_collect_spec.proofs.Stages.{IsOne, one_unless, one_value}
-use Rattle.c2_build_refusals.proofs.Inputs.{OneOpened}
+use Rattle.c2_collect_spec.proofs.Stages.{IsOne}
 use Rattle.c2_build_collect.specs.Asked.{OneCollectAsks, OneCollectPlanAsks, SomeCollectAsks, SomeCollectPlanAsks}
 use Rattle.c2_build_collect.proofs.Stages.{one_definition, one_media, one_signed}
+use Rattle.c2_collect_spec.proofs.OneOutcome.{one_parent}
 
 -- ---- one list
-
--- what the check of a file asks is one list
-abbrev pub OneCheckAsks : Type 0
-OneCheckAsks = (hash : Alg → List ℕ → List ℕ) (said : Question → Verdict) (file : List ℕ) (ps qs : List Question) → CheckAsks hash said file ps → CheckAsks hash said file qs → ps ≡ qs
 
 -- there is one list of this
 abbrev IsOneList : (List Question → Type 0) → Type 0
 IsOneList Asks = (ps qs : List Question) → Asks ps → Asks qs → ps ≡ qs
 
 -- what is asked behind one thing is one list
-one_behind : {A : Type 0} (First : Result A CollectRefusal → Type 0) (Asks : A → List Question → Type 0) → ((a : A) → First (Ok a) → IsOneList (Asks a)) → (first : Result A CollectRefusal) → First first → IsOneList (AskedBehind first Asks)
+one_behind : {A : Type 0} (First : Result A CollectRefusal → Type 0) (Asks : A → List Question → Type 0)
+    → ((a : A) → First (Ok a) → IsOneList (Asks a)) → (first : Result A CollectRefusal) → First first
+    → IsOneList (AskedBehind first Asks)
 one_behind First Asks one (Ok a) is ps qs h k = one a is ps qs h k
 one_behind First Asks one (Err e) is ps qs h k = h ∙ sym k
 
--- and behind a stage that comes to one thing
-one_asked : {A : Type 0} (First : Result A CollectRefusal → Type 0) (Asks : A → List Question → Type 0) → IsOne First → ((a : A) → First (Ok a) → IsOneList (Asks a)) → IsOneList (AsksThen First Asks)
+-- what is asked behind a stage that has one outcome is one list
+one_asked : {A : Type 0} (First : Result A CollectRefusal → Type 0) (Asks : A → List Question → Type 0) → IsOne First
+    → ((a : A) → First (Ok a) → IsOneList (Asks a)) → IsOneList (AsksThen First Asks)
 one_asked {A} First Asks first one ps qs h k =
-    one_behind First Asks one k.first k.is_first ps qs (subst (λ (r : Result A CollectRefusal). AskedBehind r Asks ps) (first h.first k.first h.is_first k.is_first) h.asks) k.asks
-
--- the media's part comes to one thing
-one_parent : OneLaws → (hash : Alg → List ℕ → List ℕ) (said : Question → Verdict) (media : List ℕ) (what : Opening Tree) → IsOne (IsParentStage hash said media what)
-one_parent l hash said media what r s h k =
-    let same : k.0 ≡ h.0 = one_media_file l hash said media what k.0 h.0 k.1 h.1 in
-    one_unless (parent_refusals h.0) (λ x. x ≡ Ok h.0) (one_value h.0) r s h.2
-    (subst (λ (m : MediaFile). Unless (parent_refusals m) (λ x. x ≡ Ok m) s) same k.2)
+    one_behind First Asks one k.first k.is_first ps qs
+    (subst (λ (r : Result A CollectRefusal). AskedBehind r Asks ps) (first h.first k.first h.is_first k.is_first) h.asks)
+    k.asks
 
 -- what is asked of two files is one list, where the media is opened so
-one_pair : OneCheckAsks → OneLaws → (hash : Alg → List ℕ → List ℕ) (said : Question → Verdict) (media other : List ℕ) (what : Opening Tree) → IsOpened media what → IsOneList (PairAsks hash said media other what)
-one_pair check laws hash said media other what opened ps qs h k =
-    let own : h.of_media ≡ k.of_media = check hash said media h.of_media k.of_media (what, opened, h.media_asks) (what, opened, k.media_asks) in
+one_pair : OneLaws
+    → (hash : Alg → List ℕ → List ℕ) (said : Question → Verdict) (media other : List ℕ) (what : Opening Tree)
+    → IsOpened media what → IsOneList (PairAsks hash said media other what)
+one_pair laws hash said media other what opened ps qs h k =
+    let own : h.of_media ≡ k.of_media =
+    one_check_asks hash said media h.of_media k.of_media (what, opened, h.media_asks) (what, opened, k.media_asks) in
     let theirs : h.of_other ≡ k.of_other =
-    one_asked (IsParentStage hash said media what) (λ m. CheckAsks hash said other) (one_parent laws hash said media what) (λ m is. check hash said other) h.of_other k.of_other h.other_asks k.other_asks in
+    one_asked (IsParentStage hash said media what) (λ m. CheckAsks hash said other) (one_parent laws hash said media what) (λ m is. one_check_asks hash said other) h.of_other k.of_other h.other_asks k.other_asks in
     h.are ∙ ap₂ (λ (x y : List Question). x ++ y) own theirs ∙ sym k.are
 
 -- what `plan_collect` asks is one list
-pub one_plan_asks : OneOpened → OneCheckAsks → OneLaws → OneCollectPlanAsks
-one_plan_asks opened check laws hash said media definition other =
-    one_asked (IsMediaStage media) _ (one_media opened media) (λ what is.
-    one_asked (IsDefinitionStage definition) _ (one_definition laws.definition definition) (λ d read. one_pair check laws hash said media other what (opened_as media what is)))
+pub one_plan_asks : OneLaws → OneCollectPlanAsks
+one_plan_asks laws hash said media definition other =
+    one_asked (IsMediaStage media) _ (one_media media) (λ what is.
+    one_asked (IsDefinitionStage definition) _ (one_definition definition) (λ d read. one_pair laws hash said media other what (opened_as media what is)))
 
--- and so is what `embed_collect` asks
-pub one_embed_asks : OneOpened → OneCheckAsks → OneLaws → OneCollectAsks
-one_embed_asks opened check laws hash said media definition message other =
-    one_asked (IsMediaStage media) _ (one_media opened media) (λ what is.
-    one_asked (IsDefinitionStage definition) _ (one_definition laws.definition definition) (λ d read.
-    one_asked (IsMessageStage d.protected message) _ (one_signed laws.item laws.refused d.protected message) (λ parts told. one_pair check laws hash said media other what (opened_as media what is))))
+-- what `embed_collect` asks is one list
+pub one_embed_asks : OneLaws → OneCollectAsks
+one_embed_asks laws hash said media definition message other =
+    one_asked (IsMediaStage media) _ (one_media media) (λ what is.
+    one_asked (IsDefinitionStage definition) _ (one_definition definition) (λ d read.
+    one_asked (IsMessageStage d.protected message) _ (one_signed laws.refused d.protected message) (λ parts told. one_pair laws hash said media other what (opened_as media what is))))
 
 -- ---- a list
 
 -- the check of each file asks a list
 abbrev pub SomeCheckAsks : Type 0
-SomeCheckAsks = (hash : Alg → List ℕ → List ℕ) (said : Question → Verdict) (file : List ℕ) → All (λ b. b < 2 ^ 8) file → (qs : List Question) × CheckAsks hash said file qs
+SomeCheckAsks =
+    (hash : Alg → List ℕ → List ℕ) (said : Question → Verdict) (file : List ℕ) → All (λ b. b < 2 ^ 8) file
+    → (qs : List Question) × CheckAsks hash said file qs
 
 -- the check of each file answers something
 abbrev pub SomeAnswer : Type 0
-SomeAnswer = (hash : Alg → List ℕ → List ℕ) (said : Question → Verdict) (file : List ℕ) → All (λ b. b < 2 ^ 8) file → (a : Answer) × IsAnswer hash said file a
+SomeAnswer =
+    (hash : Alg → List ℕ → List ℕ) (said : Question → Verdict) (file : List ℕ) → All (λ b. b < 2 ^ 8) file
+    → (a : Answer) × IsAnswer hash said file a
 
 -- there is a list of this
 abbrev SomeList : (List Question → Type 0) → Type 0
 SomeList Asks = (qs : List Question) × Asks qs
 
 -- where a stage comes to something, with more behind it, a list is asked behind it if one is behind each thing
-some_asked : {A B : Type 0} (First : Result A CollectRefusal → Type 0) (Next : A → Result B CollectRefusal → Type 0) (Asks : A → List Question → Type 0) (r : Result B CollectRefusal) → Then First Next r → ((a : A) (x : Result B CollectRefusal) → First (Ok a) → Next a x → SomeList (Asks a)) → SomeList (AsksThen First Asks)
+some_asked :
+    {A B : Type 0} (First : Result A CollectRefusal → Type 0) (Next : A → Result B CollectRefusal → Type 0)
+    (Asks : A → List Question → Type 0) (r : Result B CollectRefusal)
+    → Then First Next r → ((a : A) (x : Result B CollectRefusal) → First (Ok a) → Next a x → SomeList (Asks a))
+    → SomeList (AsksThen First Asks)
 some_asked {A} {B} First Next Asks r h over = by h.first h.is_first h.next
   where
     by : (first : Result A CollectRefusal) → First first → After Next first r → SomeList (AsksThen First Asks)
@@ -90,32 +97,47 @@ some_asked {A} {B} First Next Asks r h over = by h.first h.is_first h.next
     by (Err e) is next = ([], record { first = Err e; is_first = is; asks = refl })
 
 -- what is asked of a file is asked over what it is opened as
-opened_asks : OneOpened → (hash : Alg → List ℕ → List ℕ) (said : Question → Verdict) (file : List ℕ) (what : Opening Tree) (qs : List Question) → IsOpened file what → CheckAsks hash said file qs → OpenedAsks (check_asks hash said) what qs
-opened_asks opened hash said file what qs is h = subst (λ (w : Opening Tree). OpenedAsks (check_asks hash said) w qs) (opened file h.0 what h.1 is) h.2
+opened_asks :
+    (hash : Alg → List ℕ → List ℕ) (said : Question → Verdict) (file : List ℕ) (what : Opening Tree)
+    (qs : List Question)
+    → IsOpened file what → CheckAsks hash said file qs → OpenedAsks (check_asks hash said) what qs
+opened_asks hash said file what qs is h =
+    subst (λ (w : Opening Tree). OpenedAsks (check_asks hash said) w qs) (one_opening_file file h.0 what h.1 is) h.2
 
 -- a list is asked of two files, where the media's part comes to something
-some_pair : {A B : Type 0} (opened : OneOpened) (check : SomeCheckAsks) (hash : Alg → List ℕ → List ℕ) (said : Question → Verdict) (media other : List ℕ) (what : Opening Tree) → IsOpened media what → All (λ b. b < 2 ^ 8) media → All (λ b. b < 2 ^ 8) other
-    → (Next : MediaFile → Result A CollectRefusal → Type 0) (Last : A → Result B CollectRefusal → Type 0) (r : Result B CollectRefusal) → Then (Then (IsParentStage hash said media what) Next) Last r → SomeList (PairAsks hash said media other what)
-some_pair opened check hash said media other what is held told Next Last r h =
+some_pair :
+    {A B : Type 0} (check : SomeCheckAsks) (hash : Alg → List ℕ → List ℕ) (said : Question → Verdict)
+    (media other : List ℕ) (what : Opening Tree)
+    → IsOpened media what → All (λ b. b < 2 ^ 8) media → All (λ b. b < 2 ^ 8) other
+    → (Next : MediaFile → Result A CollectRefusal → Type 0) (Last : A → Result B CollectRefusal → Type 0) (r : Result B CollectRefusal)
+    → Then (Then (IsParentStage hash said media what) Next) Last r → SomeList (PairAsks hash said media other what)
+some_pair check hash said media other what is held told Next Last r h =
     let own = check hash said media held in
-    let theirs = some_asked (IsParentStage hash said media what) Next (λ m. CheckAsks hash said other) h.first h.is_first (λ m x first next. check hash said other told) in
-    (own.0 ++ theirs.0, record { of_media = own.0; media_asks = opened_asks opened hash said media what own.0 is own.1; of_other = theirs.0; other_asks = theirs.1; are = refl })
+    let theirs =
+    some_asked (IsParentStage hash said media what) Next (λ m. CheckAsks hash said other) h.first h.is_first
+    (λ m x first next. check hash said other told) in
+    (own.0 ++ theirs.0, record { of_media = own.0; media_asks = opened_asks hash said media what own.0 is own.1; of_other = theirs.0; other_asks = theirs.1; are = refl })
 
 -- each file has a check
-pub has_check : OneOpened → SomeAnswer → (hash : Alg → List ℕ → List ℕ) (said : Question → Verdict) (file : List ℕ) → All (λ b. b < 2 ^ 8) file → HasCheck hash said file
-has_check opened answer hash said file held = let a = answer hash said file held in record { once = λ v w p q. opened file v w p q; answer = a.0; is = a.1 }
+pub has_check : SomeAnswer → (hash : Alg → List ℕ → List ℕ) (said : Question → Verdict) (file : List ℕ)
+    → All (λ b. b < 2 ^ 8) file → HasCheck hash said file
+has_check answer hash said file held = let a = answer hash said file held in record { once = λ v w p q. one_opening_file file v w p q; answer = a.0; is = a.1 }
 
 -- `plan_collect` asks a list
-pub some_plan_asks : OneOpened → SomeCheckAsks → SomeAnswer → SomeCollectPlan → SomeCollectPlanAsks
-some_plan_asks opened check answer plan hash said media definition other held told =
-    let r = plan hash said media definition other (has_check opened answer hash said media held) (has_check opened answer hash said other told) in
+pub some_plan_asks : SomeCheckAsks → SomeAnswer → SomeCollectPlan → SomeCollectPlanAsks
+some_plan_asks check answer plan hash said media definition other held told =
+    let r =
+    plan hash said media definition other (has_check answer hash said media held)
+    (has_check answer hash said other told) in
     some_asked (IsMediaStage media) _ _ r.0 r.1 (λ what x is h.
-    some_asked (IsDefinitionStage definition) _ _ x h (λ d y read k. some_pair opened check hash said media other what (opened_as media what is) held told _ _ y k))
+    some_asked (IsDefinitionStage definition) _ _ x h (λ d y read k. some_pair check hash said media other what (opened_as media what is) held told _ _ y k))
 
--- and so does `embed_collect`
-pub some_embed_asks : OneOpened → SomeCheckAsks → SomeAnswer → SomeCollectMade → SomeCollectAsks
-some_embed_asks opened check answer made hash said media definition message other held told bytes =
-    let r = made hash said media definition message other (has_check opened answer hash said media held) (has_check opened answer hash said other told) bytes in
+-- `embed_collect` asks a list
+pub some_embed_asks : SomeCheckAsks → SomeAnswer → SomeCollectMade → SomeCollectAsks
+some_embed_asks check answer made hash said media definition message other held told bytes =
+    let r =
+    made hash said media definition message other (has_check answer hash said media held)
+    (has_check answer hash said other told) bytes in
     some_asked (IsMediaStage media) _ _ r.0 r.1 (λ what x is h.
     some_asked (IsDefinitionStage definition) _ _ x h (λ d y read k.
-    some_asked (IsMessageStage d.protected message) _ _ y k (λ parts z signed l. some_pair opened check hash said media other what (opened_as media what is) held told _ _ z l)))
+    some_asked (IsMessageStage d.protected message) _ _ y k (λ parts z signed l. some_pair check hash said media other what (opened_as media what is) held told _ _ z l)))

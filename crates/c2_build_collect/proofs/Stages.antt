@@ -1,4 +1,6 @@
 -- The inputs of a build, from the stages of any build to those of one that collects, and what comes behind them.
+use Rattle.c2_opening.proofs.TheLaws.{one_opening_file}
+use Rattle.c2_definition.proofs.TheLaws.{each_definition_is_read_one_way_one}
 use Rattle.std.proofs.Common.{◌≡◌, ℕ, List, [], ◌∷◌, refl, sym, ap, ◌∙◌, subst}
 use Rattle.std.specs.Prelude.{Result, Ok, Err}
 use Rattle.c2_base.specs.declared.values.Question.{Question}
@@ -18,7 +20,7 @@ use Rattle.c2_collect_spec.specs.Outcomes as collect
 use Rattle.c2_collect_spec.proofs.Stages.{IsOne}
 use Rattle.c2_build_refusals.specs.Stages.{IsDefinitionStage, IsMediaStage, IsMessageRead, IsMessageStage, MediaKind, definition_stage, fresh, media_stage, message_stage, stored}
 use Rattle.c2_build_refusals.specs.declared.error.BuildError.{BuildError}
-use Rattle.c2_build_refusals.proofs.Inputs.{OneDefinition, OneItem, OneOpened, one_message}
+use Rattle.c2_build_refusals.proofs.Inputs.{one_message}
 use Rattle.c2_build_refusals.proofs.Outside.{outside_map}
 use Rattle.c2_build_refusals.proofs.Passing.{opened_absent, opened_here}
 use Rattle.c2_build_drafts.specs.declared.ready.DraftedBuild.{DraftedBuild}
@@ -33,61 +35,75 @@ pub opened_kind : (media : List ℕ) (kind : MediaKind) → IsMediaStage media (
 opened_kind media fresh h = opened_absent media h
 opened_kind media (stored start len t) h = opened_here media start len t h
 
--- and stays that
-pub opened_as : (media : List ℕ) (kind : MediaKind) → IsMediaStage media (Ok kind) → collect.IsMediaStage media (Ok (opening_of kind))
+-- a media file of a kind passes the stage of collected builds as opened so
+pub opened_as : (media : List ℕ) (kind : MediaKind) → IsMediaStage media (Ok kind)
+    → collect.IsMediaStage media (Ok (opening_of kind))
 opened_as media fresh h = (absent, opened_absent media h, refl)
 opened_as media (stored start len t) h = (here start len t, opened_here media start len t h, refl)
 
 -- one that is refused is refused with its error
-pub media_error : (media : List ℕ) (e : BuildError) → IsMediaStage media (Err e) → IsRefusedWith (collect.IsMediaStage media) e
+pub media_error : (media : List ℕ) (e : BuildError) → IsMediaStage media (Err e)
+    → IsRefusedWith (collect.IsMediaStage media) e
 media_error media e s = by s.0 s.1 s.2
   where
-    by : (what : Opening Tree) → IsOpened media what → ◌≡◌ {A = Result MediaKind BuildError} (Err e) (media_stage what) → IsRefusedWith (collect.IsMediaStage media) e
+    by : (what : Opening Tree) → IsOpened media what → ◌≡◌ {A = Result MediaKind BuildError} (Err e) (media_stage what)
+        → IsRefusedWith (collect.IsMediaStage media) e
     by (refused reason number) o same = (media_refused reason number, (refused reason number, o, refl), cc (same))
     by absent o same = absurd (cc (same))
     by (here start len t) o same = absurd (cc (same))
 
--- it is one thing to a build that collects
-pub one_media : OneOpened → (media : List ℕ) → IsOne (collect.IsMediaStage media)
-one_media one media r s h k = h.2 ∙ ap collect.media_stage (one media h.0 k.0 h.1 k.1) ∙ sym k.2
+-- a media file is one thing to a build that collects
+pub one_media : (media : List ℕ) → IsOne (collect.IsMediaStage media)
+one_media media r s h k = h.2 ∙ ap collect.media_stage (one_opening_file media h.0 k.0 h.1 k.1) ∙ sym k.2
 
 -- ---- the definition
 
 -- a definition is one
-pub defined_as : (file : List ℕ) (d : Definition) → IsDefinitionStage file (Ok d) → collect.IsDefinitionStage file (Ok d)
+pub defined_as : (file : List ℕ) (d : Definition) → IsDefinitionStage file (Ok d)
+    → collect.IsDefinitionStage file (Ok d)
 defined_as file d s = by s.0 s.1 s.2
   where
-    by : (r : Result Definition DefinitionField) → IsDefinition file r → ◌≡◌ {A = Result Definition BuildError} (Ok d) (definition_stage r) → collect.IsDefinitionStage file (Ok d)
+    by : (r : Result Definition DefinitionField) → IsDefinition file r
+        → ◌≡◌ {A = Result Definition BuildError} (Ok d) (definition_stage r) → collect.IsDefinitionStage file (Ok d)
     by (Ok x) is e = (Ok x, is, cc (e))
     by (Err field) is e = absurd (cc (e))
 
--- and one that is refused is refused with its error
-pub definition_error : (file : List ℕ) (e : BuildError) → IsDefinitionStage file (Err e) → IsRefusedWith (collect.IsDefinitionStage file) e
+-- a definition file that is refused is refused with its error
+pub definition_error : (file : List ℕ) (e : BuildError) → IsDefinitionStage file (Err e)
+    → IsRefusedWith (collect.IsDefinitionStage file) e
 definition_error file e s = by s.0 s.1 s.2
   where
-    by : (r : Result Definition DefinitionField) → IsDefinition file r → ◌≡◌ {A = Result Definition BuildError} (Err e) (definition_stage r) → IsRefusedWith (collect.IsDefinitionStage file) e
+    by : (r : Result Definition DefinitionField) → IsDefinition file r
+        → ◌≡◌ {A = Result Definition BuildError} (Err e) (definition_stage r)
+        → IsRefusedWith (collect.IsDefinitionStage file) e
     by (Ok x) is same = absurd (cc (same))
     by (Err field) is same = (bad_definition field, (Err field, is, refl), cc (same))
 
--- it is one thing to a build that collects
-pub one_definition : OneDefinition → (file : List ℕ) → IsOne (collect.IsDefinitionStage file)
-one_definition one file r s h k = h.2 ∙ ap collect.definition_stage (one file h.0 k.0 h.1 k.1) ∙ sym k.2
+-- a definition file is one thing to a build that collects
+pub one_definition : (file : List ℕ) → IsOne (collect.IsDefinitionStage file)
+one_definition file r s h k =
+    h.2 ∙ ap collect.definition_stage (each_definition_is_read_one_way_one file h.0 k.0 h.1 k.1) ∙ sym k.2
 
 -- ---- the message
 
 -- a message is one
-pub message_as : (protected bytes : List ℕ) (p : SignParts) → IsMessageStage protected bytes (Ok p) → collect.IsMessageStage protected bytes (Ok p)
+pub message_as : (protected bytes : List ℕ) (p : SignParts) → IsMessageStage protected bytes (Ok p)
+    → collect.IsMessageStage protected bytes (Ok p)
 message_as protected bytes p s = by s.0 s.1 s.2
   where
-    by : (r : Result SignParts SignaturePart) → IsMessageRead protected bytes r → ◌≡◌ {A = Result SignParts BuildError} (Ok p) (message_stage r) → collect.IsMessageStage protected bytes (Ok p)
+    by : (r : Result SignParts SignaturePart) → IsMessageRead protected bytes r
+        → ◌≡◌ {A = Result SignParts BuildError} (Ok p) (message_stage r) → collect.IsMessageStage protected bytes (Ok p)
     by (Ok x) is e = (Ok x, is, cc (e))
     by (Err test) is e = absurd (cc (e))
 
--- and one that is refused is refused with its error
-pub message_error : (protected bytes : List ℕ) (e : BuildError) → IsMessageStage protected bytes (Err e) → IsRefusedWith (collect.IsMessageStage protected bytes) e
+-- a message that is refused is refused with its error
+pub message_error : (protected bytes : List ℕ) (e : BuildError) → IsMessageStage protected bytes (Err e)
+    → IsRefusedWith (collect.IsMessageStage protected bytes) e
 message_error protected bytes e s = by s.0 s.1 s.2
   where
-    by : (r : Result SignParts SignaturePart) → IsMessageRead protected bytes r → ◌≡◌ {A = Result SignParts BuildError} (Err e) (message_stage r) → IsRefusedWith (collect.IsMessageStage protected bytes) e
+    by : (r : Result SignParts SignaturePart) → IsMessageRead protected bytes r
+        → ◌≡◌ {A = Result SignParts BuildError} (Err e) (message_stage r)
+        → IsRefusedWith (collect.IsMessageStage protected bytes) e
     by (Ok x) is same = absurd (cc (same))
     by (Err test) is same = (bad_signature test, (Err test, is, refl), cc (same))
 
@@ -98,43 +114,68 @@ same_read (Ok p) (Err t) e = absurd (cc (e))
 same_read (Err t) (Ok q) e = absurd (cc (e))
 same_read (Err t) (Err u) e = cc (e)
 
--- so it is one thing to a build that collects
-pub one_signed : OneItem → RefusedForOne → (protected bytes : List ℕ) → IsOne (collect.IsMessageStage protected bytes)
-one_signed item law protected bytes r s h k =
-    let same = one_message item law protected bytes (message_stage h.0) (message_stage k.0) (h.0, h.1, refl) (k.0, k.1, refl) in
+-- a message is one thing to a build that collects
+pub one_signed : RefusedForOne → (protected bytes : List ℕ) → IsOne (collect.IsMessageStage protected bytes)
+one_signed law protected bytes r s h k =
+    let same =
+    one_message law protected bytes (message_stage h.0) (message_stage k.0) (h.0, h.1, refl) (k.0, k.1, refl) in
     h.2 ∙ ap collect.message_stage (same_read h.0 k.0 same) ∙ sym k.2
 
 -- ---- one stage after the other
 
 -- a stage that refuses
-pub refused_first : {A B : Type 0} (First : Result A CollectRefusal → Type 0) (Next : A → Result B CollectRefusal → Type 0) (e : BuildError) → IsRefusedWith First e → IsRefusedWith (Then First Next) e
+pub refused_first :
+    {A B : Type 0} (First : Result A CollectRefusal → Type 0) (Next : A → Result B CollectRefusal → Type 0)
+    (e : BuildError)
+    → IsRefusedWith First e → IsRefusedWith (Then First Next) e
 refused_first First Next e h = (h.0, record { first = Err h.0; is_first = h.1; next = refl }, h.2)
 
 -- what is refused behind a stage that passed
-pub refused_next : {A B : Type 0} (First : Result A CollectRefusal → Type 0) (Next : A → Result B CollectRefusal → Type 0) (a : A) (e : BuildError) → First (Ok a) → IsRefusedWith (Next a) e → IsRefusedWith (Then First Next) e
+pub refused_next :
+    {A B : Type 0} (First : Result A CollectRefusal → Type 0) (Next : A → Result B CollectRefusal → Type 0) (a : A)
+    (e : BuildError)
+    → First (Ok a) → IsRefusedWith (Next a) e → IsRefusedWith (Then First Next) e
 refused_next First Next a e first h = (h.0, record { first = Ok a; is_first = first; next = h.1 }, h.2)
 
 -- an answer behind a stage that passed
-pub answer_next : {A B : Type 0} (First : Result A CollectRefusal → Type 0) (Next : A → Result B CollectRefusal → Type 0) (a : A) (r : Result B BuildError) → First (Ok a) → IsAnswerTo (Next a) r → IsAnswerTo (Then First Next) r
+pub answer_next :
+    {A B : Type 0} (First : Result A CollectRefusal → Type 0) (Next : A → Result B CollectRefusal → Type 0) (a : A)
+    (r : Result B BuildError)
+    → First (Ok a) → IsAnswerTo (Next a) r → IsAnswerTo (Then First Next) r
 answer_next First Next a (Ok b) first h = record { first = Ok a; is_first = first; next = h }
 answer_next First Next a (Err e) first h = outside_map e (refused_next First Next a e first) h
 
 -- what is drafted behind a stage that passed
-pub build_next : {A : Type 0} (hash : Alg → List ℕ → List ℕ) (media : List ℕ) (First : Result A CollectRefusal → Type 0) (Next : A → Result NewFile CollectRefusal → Type 0) (a : A) (r : Result DraftedBuild BuildError) → First (Ok a) → IsBuildFor hash media (Next a) r
+pub build_next :
+    {A : Type 0} (hash : Alg → List ℕ → List ℕ) (media : List ℕ) (First : Result A CollectRefusal → Type 0)
+    (Next : A → Result NewFile CollectRefusal → Type 0) (a : A) (r : Result DraftedBuild BuildError)
+    → First (Ok a) → IsBuildFor hash media (Next a) r
     → IsBuildFor hash media (Then First Next) r
-build_next hash media First Next a (Ok b) first h = record { ground = h.ground; over = h.over; made = λ bytes put. record { first = Ok a; is_first = first; next = h.made bytes put } }
+build_next hash media First Next a (Ok b) first h =
+    record
+    { ground = h.ground; over = h.over; made = λ bytes put. record { first = Ok a; is_first = first; next = h.made bytes put } }
 build_next hash media First Next a (Err e) first h = outside_map e (refused_next First Next a e first) h
 
 -- the first of a list is what refuses
-pub unless_first : {A : Type 0} (es : List CollectRefusal) (Next : Result A CollectRefusal → Type 0) (refusal : CollectRefusal) (others : List CollectRefusal) → es ≡ refusal ∷ others → Unless es Next (Err refusal)
-unless_first {A} es Next refusal others is = subst (λ (xs : List CollectRefusal). Unless {A = A} xs Next (Err refusal)) (sym is) refl
+pub unless_first :
+    {A : Type 0} (es : List CollectRefusal) (Next : Result A CollectRefusal → Type 0) (refusal : CollectRefusal)
+    (others : List CollectRefusal)
+    → es ≡ refusal ∷ others → Unless es Next (Err refusal)
+unless_first {A} es Next refusal others is =
+    subst (λ (xs : List CollectRefusal). Unless {A = A} xs Next (Err refusal)) (sym is) refl
 
 -- ---- questions
 
 -- what is asked behind a stage that passed is what its value asks
-pub asks_behind : {A : Type 0} (First : Result A CollectRefusal → Type 0) (Asks : A → List Question → Type 0) (a : A) (qs : List Question) → IsOne First → First (Ok a) → AsksThen First Asks qs → Asks a qs
+pub asks_behind :
+    {A : Type 0} (First : Result A CollectRefusal → Type 0) (Asks : A → List Question → Type 0) (a : A)
+    (qs : List Question)
+    → IsOne First → First (Ok a) → AsksThen First Asks qs → Asks a qs
 asks_behind First Asks a qs one is h = subst (λ r. AskedBehind r Asks qs) (one h.first (Ok a) h.is_first is) h.asks
 
--- and behind one that refuses nothing is
-pub asks_none : {A : Type 0} (First : Result A CollectRefusal → Type 0) (Asks : A → List Question → Type 0) (e : BuildError) (qs : List Question) → IsOne First → IsRefusedWith First e → AsksThen First Asks qs → qs ≡ []
+-- nothing is asked behind a stage that refuses
+pub asks_none :
+    {A : Type 0} (First : Result A CollectRefusal → Type 0) (Asks : A → List Question → Type 0) (e : BuildError)
+    (qs : List Question)
+    → IsOne First → IsRefusedWith First e → AsksThen First Asks qs → qs ≡ []
 asks_none First Asks e qs one is h = subst (λ r. AskedBehind r Asks qs) (one h.first (Err is.0) h.is_first is.1) h.asks

@@ -21,41 +21,54 @@ use Rattle.c2_build_collect.proofs.Due.{definition_told, message_told, other_tol
 use Rattle.c2_build_collect.proofs.Stages.{asks_behind, asks_none, defined_as, definition_error, media_error, message_as, message_error, one_definition, one_media, one_signed, opened_as}
 
 -- what is said of each list that is asked
-said_of : (e : BuildError) (Asks : List Question → Type 0) → ((qs : List Question) → Asks qs → WithoutFault e (qs ≡ [])) → WithoutFault e ((qs : List Question) → Asks qs → qs ≡ [])
-said_of e Asks h = said_each e {A = List Question} (λ (qs : List Question). Asks qs → qs ≡ []) (λ qs. said_each e {A = Asks qs} (λ (k : Asks qs). qs ≡ []) (λ k. h qs k))
+said_of : (e : BuildError) (Asks : List Question → Type 0) → ((qs : List Question) → Asks qs → WithoutFault e (qs ≡ []))
+    → WithoutFault e ((qs : List Question) → Asks qs → qs ≡ [])
+said_of e Asks h =
+    said_each e {A = List Question} (λ (qs : List Question). Asks qs → qs ≡ [])
+    (λ qs. said_each e {A = Asks qs} (λ (k : Asks qs). qs ≡ []) (λ k. h qs k))
 
 -- either of two inputs that was read isn't refused
-pub neither : OneOpened → OneDefinition → (d : Definition) (media definition : Option (List ℕ)) → ((file : List ℕ) → media ≡ Some file → (kind : MediaKind) × IsMediaStage file (Ok kind)) → ((bytes : List ℕ) → definition ≡ Some bytes → IsDefinitionStage bytes (Ok d))
+pub neither : (d : Definition) (media definition : Option (List ℕ))
+    → ((file : List ℕ) → media ≡ Some file → (kind : MediaKind) × IsMediaStage file (Ok kind))
+    → ((bytes : List ℕ) → definition ≡ Some bytes → IsDefinitionStage bytes (Ok d))
     → IsEitherRefused media definition → ⊥
-neither one defined d media definition found stage (inl told) = let kind = found told.0 told.1 in not_both_media one told.0 kind.0 kind.1 told.2
-neither one defined d media definition found stage (inr told) = not_both_definitions defined told.0 d (stage told.0 told.1) told.2
+neither d media definition found stage (inl told) = let kind = found told.0 told.1 in not_both_media told.0 kind.0 kind.1 told.2
+neither d media definition found stage (inr told) = not_both_definitions told.0 d (stage told.0 told.1) told.2
 
 -- ---- what `plan_collect` asks
 
 module _ (one : OneOpened) (hash : Alg → List ℕ → List ℕ) (said : Question → Verdict) (media definition other : Option (List ℕ)) where
   -- nothing where the media is refused
-  pub refused_plan : (e : BuildError) → ((file : List ℕ) → media ≡ Some file → WithoutFault e (IsMediaStage file (Err e))) → WithoutFault e ((qs : List Question) → AsksPlanned hash media definition other said qs → qs ≡ [])
+  pub refused_plan : (e : BuildError)
+      → ((file : List ℕ) → media ≡ Some file → WithoutFault e (IsMediaStage file (Err e)))
+      → WithoutFault e ((qs : List Question) → AsksPlanned hash media definition other said qs → qs ≡ [])
   refused_plan e stage = said_of e (AsksPlanned hash media definition other said) by
     where
       by : (qs : List Question) → AsksPlanned hash media definition other said qs → WithoutFault e (qs ≡ [])
-      by qs (inl k) = outside_map e (λ is. asks_none (collect.IsMediaStage k.file) _ e qs (one_media one k.file) (media_error k.file e is) k.asks) (stage k.file k.is_file)
+      by qs (inl k) =
+          outside_map e
+          (λ is. asks_none (collect.IsMediaStage k.file) _ e qs (one_media k.file) (media_error k.file e is) k.asks)
+          (stage k.file k.is_file)
       by qs (inr h) = outside_all e h.0
 
   module _ (defined : OneDefinition) (m : MediaRead) (found : (file : List ℕ) → media ≡ Some file → (kind : MediaKind) × IsKind file m kind) where
     -- nothing where the definition is refused
-    pub undefined_plan : (e : BuildError) → ((bytes : List ℕ) → definition ≡ Some bytes → WithoutFault e (IsDefinitionStage bytes (Err e))) → WithoutFault e ((qs : List Question) → AsksPlanned hash media definition other said qs → qs ≡ [])
+    pub undefined_plan : (e : BuildError)
+        → ((bytes : List ℕ) → definition ≡ Some bytes → WithoutFault e (IsDefinitionStage bytes (Err e)))
+        → WithoutFault e ((qs : List Question) → AsksPlanned hash media definition other said qs → qs ≡ [])
     undefined_plan e stage = said_of e (AsksPlanned hash media definition other said) by
       where
         by : (qs : List Question) → AsksPlanned hash media definition other said qs → WithoutFault e (qs ≡ [])
         by qs (inl k) =
             let kind = found k.file k.is_file in
             let told = definition_told one hash said k.file kind.0 kind.1.stage definition k.bytes k.is_bytes in
-            outside_map e (λ is. asks_none (collect.IsDefinitionStage k.bytes) _ e qs (one_definition defined k.bytes) (definition_error k.bytes e is)
-            (asks_behind (collect.IsMediaStage k.file) _ (opening_of kind.0) qs (one_media one k.file) (opened_as k.file kind.0 kind.1.stage) k.asks)) (stage k.bytes told)
+            outside_map e (λ is. asks_none (collect.IsDefinitionStage k.bytes) _ e qs (one_definition k.bytes) (definition_error k.bytes e is)
+            (asks_behind (collect.IsMediaStage k.file) _ (opening_of kind.0) qs (one_media k.file) (opened_as k.file kind.0 kind.1.stage) k.asks)) (stage k.bytes told)
         by qs (inr h) = outside_all e h.0
 
-    -- and else what is asked of both files
-    pub planned_asks : (d : Definition) → ((bytes : List ℕ) → definition ≡ Some bytes → IsDefinitionStage bytes (Ok d)) → (qs : List Question) → AsksPlanned hash media definition other said qs → PairHears hash media other m said qs
+    -- where the definition isn't refused, a plan asks what is asked of both files
+    pub planned_asks : (d : Definition) → ((bytes : List ℕ) → definition ≡ Some bytes → IsDefinitionStage bytes (Ok d))
+        → (qs : List Question) → AsksPlanned hash media definition other said qs → PairHears hash media other m said qs
     planned_asks d stage qs (inl k) =
         let kind = found k.file k.is_file in
         let told = definition_told one hash said k.file kind.0 kind.1.stage definition k.bytes k.is_bytes in
@@ -66,63 +79,84 @@ module _ (one : OneOpened) (hash : Alg → List ℕ → List ℕ) (said : Questi
           kind = kind.0;
           is = kind.1;
           others = k.others;
-          is_told = other_told one hash said k.file kind.0 kind.1.stage {NotDue = IsDefinitionRefused k.bytes} other k.others (undefined defined d k.bytes read) k.is_others;
-          asks = asks_behind (collect.IsDefinitionStage k.bytes) _ d qs (one_definition defined k.bytes) (defined_as k.bytes d read)
-              (asks_behind (collect.IsMediaStage k.file) _ (opening_of kind.0) qs (one_media one k.file) (opened_as k.file kind.0 kind.1.stage) k.asks);
+          is_told =
+              other_told one hash said k.file kind.0 kind.1.stage {NotDue = IsDefinitionRefused k.bytes} other k.others
+              (undefined d k.bytes read) k.is_others;
+          asks = asks_behind (collect.IsDefinitionStage k.bytes) _ d qs (one_definition k.bytes) (defined_as k.bytes d read)
+              (asks_behind (collect.IsMediaStage k.file) _ (opening_of kind.0) qs (one_media k.file) (opened_as k.file kind.0 kind.1.stage) k.asks);
         }
-    planned_asks d stage qs (inr h) = absurd (neither one defined d media definition (λ file known. let kind = found file known in (kind.0, kind.1.stage)) stage h.1)
+    planned_asks d stage qs (inr h) = absurd (neither d media definition (λ file known. let kind = found file known in (kind.0, kind.1.stage)) stage h.1)
 
 -- ---- what `embed_collect` asks
 
 module _ (one : OneOpened) (hash : Alg → List ℕ → List ℕ) (said : Question → Verdict) (media definition message other : Option (List ℕ)) where
   -- nothing where the media is refused
-  pub refused_embed : (e : BuildError) → ((file : List ℕ) → media ≡ Some file → WithoutFault e (IsMediaStage file (Err e))) → WithoutFault e ((qs : List Question) → AsksEmbedded hash media definition message other said qs → qs ≡ [])
+  pub refused_embed : (e : BuildError)
+      → ((file : List ℕ) → media ≡ Some file → WithoutFault e (IsMediaStage file (Err e)))
+      → WithoutFault e ((qs : List Question) → AsksEmbedded hash media definition message other said qs → qs ≡ [])
   refused_embed e stage = said_of e (AsksEmbedded hash media definition message other said) by
     where
       by : (qs : List Question) → AsksEmbedded hash media definition message other said qs → WithoutFault e (qs ≡ [])
-      by qs (inl k) = outside_map e (λ is. asks_none (collect.IsMediaStage k.file) _ e qs (one_media one k.file) (media_error k.file e is) k.asks) (stage k.file k.is_file)
+      by qs (inl k) =
+          outside_map e
+          (λ is. asks_none (collect.IsMediaStage k.file) _ e qs (one_media k.file) (media_error k.file e is) k.asks)
+          (stage k.file k.is_file)
       by qs (inr h) = outside_all e h.0
 
   module _ (defined : OneDefinition) (m : MediaRead) (found : (file : List ℕ) → media ≡ Some file → (kind : MediaKind) × IsKind file m kind) where
     -- nothing where the definition is refused
-    pub undefined_embed : (e : BuildError) → ((bytes : List ℕ) → definition ≡ Some bytes → WithoutFault e (IsDefinitionStage bytes (Err e))) → WithoutFault e ((qs : List Question) → AsksEmbedded hash media definition message other said qs → qs ≡ [])
+    pub undefined_embed : (e : BuildError)
+        → ((bytes : List ℕ) → definition ≡ Some bytes → WithoutFault e (IsDefinitionStage bytes (Err e)))
+        → WithoutFault e ((qs : List Question) → AsksEmbedded hash media definition message other said qs → qs ≡ [])
     undefined_embed e stage = said_of e (AsksEmbedded hash media definition message other said) by
       where
         by : (qs : List Question) → AsksEmbedded hash media definition message other said qs → WithoutFault e (qs ≡ [])
         by qs (inl k) =
             let kind = found k.file k.is_file in
             let told = definition_told one hash said k.file kind.0 kind.1.stage definition k.bytes k.is_bytes in
-            outside_map e (λ is. asks_none (collect.IsDefinitionStage k.bytes) _ e qs (one_definition defined k.bytes) (definition_error k.bytes e is)
-            (asks_behind (collect.IsMediaStage k.file) _ (opening_of kind.0) qs (one_media one k.file) (opened_as k.file kind.0 kind.1.stage) k.asks)) (stage k.bytes told)
+            outside_map e (λ is. asks_none (collect.IsDefinitionStage k.bytes) _ e qs (one_definition k.bytes) (definition_error k.bytes e is)
+            (asks_behind (collect.IsMediaStage k.file) _ (opening_of kind.0) qs (one_media k.file) (opened_as k.file kind.0 kind.1.stage) k.asks)) (stage k.bytes told)
         by qs (inr h) = outside_all e h.0
 
     module _ (item : OneItem) (refusals : RefusedForOne) (d : Definition) (is : (bytes : List ℕ) → definition ≡ Some bytes → IsDefinitionStage bytes (Ok d)) where
       -- what is asked behind the definition
-      behind_definition : (qs : List Question) (k : AsksEmbed hash media definition message other said qs) → collect.AsksThen (collect.IsMessageStage d.protected k.signed) (λ parts. collect.PairAsks hash said k.file k.others (opening_of (found k.file k.is_file).0)) qs
+      behind_definition : (qs : List Question) (k : AsksEmbed hash media definition message other said qs)
+          → collect.AsksThen (collect.IsMessageStage d.protected k.signed) (λ parts. collect.PairAsks hash said k.file k.others (opening_of (found k.file k.is_file).0)) qs
       behind_definition qs k =
           let kind = found k.file k.is_file in
           let told = definition_told one hash said k.file kind.0 kind.1.stage definition k.bytes k.is_bytes in
-          asks_behind (collect.IsDefinitionStage k.bytes) _ d qs (one_definition defined k.bytes) (defined_as k.bytes d (is k.bytes told))
-          (asks_behind (collect.IsMediaStage k.file) _ (opening_of kind.0) qs (one_media one k.file) (opened_as k.file kind.0 kind.1.stage) k.asks)
+          asks_behind (collect.IsDefinitionStage k.bytes) _ d qs (one_definition k.bytes)
+          (defined_as k.bytes d (is k.bytes told))
+          (asks_behind (collect.IsMediaStage k.file) _ (opening_of kind.0) qs (one_media k.file) (opened_as k.file kind.0 kind.1.stage) k.asks)
 
       -- the bytes of the message, which are told
-      signed_told : (qs : List Question) (k : AsksEmbed hash media definition message other said qs) → message ≡ Some k.signed
+      signed_told : (qs : List Question) (k : AsksEmbed hash media definition message other said qs)
+          → message ≡ Some k.signed
       signed_told qs k =
           let kind = found k.file k.is_file in
           let told = definition_told one hash said k.file kind.0 kind.1.stage definition k.bytes k.is_bytes in
-          message_told one hash said k.file kind.0 kind.1.stage defined d k.bytes (is k.bytes told) message k.signed k.is_signed
+          message_told one hash said k.file kind.0 kind.1.stage defined d k.bytes (is k.bytes told) message k.signed
+          k.is_signed
 
       -- nothing where the message is refused
-      pub unsigned_embed : (e : BuildError) → ((signed : List ℕ) → message ≡ Some signed → WithoutFault e (IsMessageStage d.protected signed (Err e))) → WithoutFault e ((qs : List Question) → AsksEmbedded hash media definition message other said qs → qs ≡ [])
+      pub unsigned_embed : (e : BuildError)
+          → ((signed : List ℕ) → message ≡ Some signed → WithoutFault e (IsMessageStage d.protected signed (Err e)))
+          → WithoutFault e ((qs : List Question) → AsksEmbedded hash media definition message other said qs → qs ≡ [])
       unsigned_embed e stage = said_of e (AsksEmbedded hash media definition message other said) by
         where
-          by : (qs : List Question) → AsksEmbedded hash media definition message other said qs → WithoutFault e (qs ≡ [])
+          by : (qs : List Question) → AsksEmbedded hash media definition message other said qs
+              → WithoutFault e (qs ≡ [])
           by qs (inl k) =
-              outside_map e (λ read. asks_none (collect.IsMessageStage d.protected k.signed) _ e qs (one_signed item refusals d.protected k.signed) (message_error d.protected k.signed e read) (behind_definition qs k)) (stage k.signed (signed_told qs k))
+              outside_map e
+              (λ read. asks_none (collect.IsMessageStage d.protected k.signed) _ e qs (one_signed refusals d.protected k.signed) (message_error d.protected k.signed e read) (behind_definition qs k))
+              (stage k.signed (signed_told qs k))
           by qs (inr h) = outside_all e h.0
 
-      -- and else what is asked of both files
-      pub embedded_asks : (p : SignParts) → ((signed : List ℕ) → message ≡ Some signed → IsMessageStage d.protected signed (Ok p)) → (qs : List Question) → AsksEmbedded hash media definition message other said qs → PairHears hash media other m said qs
+      -- where neither nor the message is refused, a new file asks what is asked of both files
+      pub embedded_asks : (p : SignParts)
+          → ((signed : List ℕ) → message ≡ Some signed → IsMessageStage d.protected signed (Ok p))
+          → (qs : List Question) → AsksEmbedded hash media definition message other said qs
+          → PairHears hash media other m said qs
       embedded_asks p stage qs (inl k) =
           let kind = found k.file k.is_file in
           let told = definition_told one hash said k.file kind.0 kind.1.stage definition k.bytes k.is_bytes in
@@ -133,11 +167,16 @@ module _ (one : OneOpened) (hash : Alg → List ℕ → List ℕ) (said : Questi
             kind = kind.0;
             is = kind.1;
             others = k.others;
-            is_told = other_told one hash said k.file kind.0 kind.1.stage other k.others (unsigned defined item refusals d p k.bytes k.signed (is k.bytes told) read) k.is_others;
-            asks = asks_behind (collect.IsMessageStage d.protected k.signed) _ p qs (one_signed item refusals d.protected k.signed) (message_as d.protected k.signed p read) (behind_definition qs k);
+            is_told =
+                other_told one hash said k.file kind.0 kind.1.stage other k.others
+                (unsigned refusals d p k.bytes k.signed (is k.bytes told) read) k.is_others;
+            asks =
+                asks_behind (collect.IsMessageStage d.protected k.signed) _ p qs
+                (one_signed refusals d.protected k.signed) (message_as d.protected k.signed p read)
+                (behind_definition qs k);
           }
       embedded_asks p stage qs (inr h) = absurd (by h.1)
         where
           by : IsEitherRefused media definition ⊎ IsToldRefused definition message → ⊥
-          by (inl refused) = neither one defined d media definition (λ file known. let kind = found file known in (kind.0, kind.1.stage)) is refused
-          by (inr told) = untold defined item refusals d p definition message is stage told
+          by (inl refused) = neither d media definition (λ file known. let kind = found file known in (kind.0, kind.1.stage)) is refused
+          by (inr told) = untold refusals d p definition message is stage told

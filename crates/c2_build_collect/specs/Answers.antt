@@ -5,7 +5,6 @@ use Rattle.std.specs.declared.option.Option.TheVariants.{Some}
 use Rattle.std.specs.declared.result.Result.{Result}
 use Rattle.std.specs.declared.result.Result.TheVariants.{Ok, Err}
 use Rattle.std.specs.Option.{ForSome}
-use Rattle.c2_base.specs.Sink.{WritesSink, unsaid}
 use Rattle.c2_base.specs.Source.{IsKnownWhereDue}
 use Rattle.c2_base.specs.declared.values.Question.{Question}
 use Rattle.c2_copying.specs.Writing.{WritesFile}
@@ -18,11 +17,11 @@ use Rattle.c2_collect_spec.specs.Made.{CollectedMeets}
 use Rattle.c2_collect_spec.specs.Order.{CollectRefusal}
 use Rattle.c2_collect_spec.specs.Outcomes.{CollectAsks, CollectPlanAsks, IsCollectMade, NewFile}
 use Rattle.c2_build_refusals.specs.Kinds.{Effects, IsSourceCause, WithoutFault, kind_of}
-use Rattle.c2_build_refusals.specs.Sinks.{EndsOut, IsOutCause}
 use Rattle.c2_build_refusals.specs.Stages.{IsDefinitionRefused, IsDefinitionTold, IsMediaRefused, IsMessageRefused, IsMessageTold, IsToldOf, IsToldRefused, LeavesUndue}
 use Rattle.c2_build_refusals.specs.declared.error.BuildError.{BuildError}
 use Rattle.c2_build_refusals.specs.declared.types.Embedded.{Embedded}
 use Rattle.c2_build_endings.specs.Endings.{build_ending}
+use Rattle.c2_build_endings.specs.Sources.{FaultsRose, IsRead, SourceUse}
 use Rattle.c2_build_collect_base.specs.Errors.{IsRefusedWith}
 use Rattle.c2_build_collect_base.specs.Grounds.{IsParentRefused, ground_effects}
 
@@ -130,6 +129,30 @@ AsksEmbedded hash media definition message other said qs =
     AsksEmbed hash media definition message other said qs
     ⊎ ((qs ≡ []) × (IsEitherRefused media definition ⊎ IsToldRefused definition message))
 
+-- ---- what is left of the sources
+
+-- What `plan_collect` leaves of its sources. Each error has its cause by each of them: by its own count of faults, and by whether that of another one
+-- rose.
+pub record ReadsPlannedPair {A B D T E : Type 0} (IsCause : Type 0 → ℕ → ℕ → E → Type 0) (a : SourceUse A) (b : SourceUse B) (d : SourceUse D) (result : Result T E) : Type 0 where
+  -- the media file
+  pub media : IsRead (IsCause (FaultsRose b ⊎ FaultsRose d)) a result
+  -- the definition file
+  pub definition : IsRead (IsCause (FaultsRose a ⊎ FaultsRose d)) b result
+  -- the other media file
+  pub other : IsRead (IsCause (FaultsRose a ⊎ FaultsRose b)) d result
+
+-- What `embed_collect` leaves of its sources. Each error has its cause by each of them: by its own count of faults, and by whether that of another one
+-- rose.
+pub record ReadsSignedPair {A B C D T E : Type 0} (IsCause : Type 0 → ℕ → ℕ → E → Type 0) (a : SourceUse A) (b : SourceUse B) (c : SourceUse C) (d : SourceUse D) (result : Result T E) : Type 0 where
+  -- the media file
+  pub media : IsRead (IsCause (FaultsRose b ⊎ (FaultsRose c ⊎ FaultsRose d))) a result
+  -- the definition file
+  pub definition : IsRead (IsCause (FaultsRose a ⊎ (FaultsRose c ⊎ FaultsRose d))) b result
+  -- the signed message
+  pub message : IsRead (IsCause (FaultsRose a ⊎ (FaultsRose b ⊎ FaultsRose d))) c result
+  -- the other media file
+  pub other : IsRead (IsCause (FaultsRose a ⊎ (FaultsRose b ⊎ FaultsRose c))) d result
+
 -- ---- the new file
 
 -- the range that is answered is that of a new file
@@ -154,10 +177,10 @@ Writes Is bytes = (r : Result NewFile CollectRefusal) × Is r × (bytes ≡ file
 -- the new file that is answered meets what `CollectedMeets` says: its new store collects from both files, each rule but that on its message's
 -- verdict holds of it, its first question is over the bytes that `plan_collect` gives, and each other one is one that the media file or the
 -- other file asks, and the judges of the build approve
-abbrev pub IsMet : (Alg → List ℕ → List ℕ) → (Question → Verdict) → List ℕ → List ℕ → List ℕ → List ℕ → Result Embedded BuildError → Type 0
-IsMet hash said media definition message other (Ok e) =
+abbrev pub IsCollectMet : (Alg → List ℕ → List ℕ) → (Question → Verdict) → List ℕ → List ℕ → List ℕ → List ℕ → Result Embedded BuildError → Type 0
+IsCollectMet hash said media definition message other (Ok e) =
     (b : NewFile) → IsCollectMade hash said media definition message other (Ok b) → CollectedMeets hash said media definition message other b
-IsMet hash said media definition message other (Err e) = ⊤
+IsCollectMet hash said media definition message other (Err e) = ⊤
 
 -- What `embed_collect` does over known inputs, of a sink before and after: it answers what they come to, the range of the new file or what is
 -- refused first; it writes the new file, a prefix of it where a source or the sink fails, and nothing where they are refused; within a stated spare
@@ -167,10 +190,4 @@ pub record EmbedsCollected {K : Type 0} (written : K → Option (List ℕ)) (spa
     (result : Result Embedded BuildError) : Type 0 where
   pub answered : IsRangeOf (IsCollectMade hash said media definition message other) result
   pub wrote : WritesFile written spare finished (Writes (IsCollectMade hash said media definition message other)) old new (build_ending result)
-  pub meets : IsMet hash said media definition message other result
-
--- What `embed_collect` does to its sink, whatever is known of its sources: what is known of it stays so, and its own fault comes only where its count
--- of faults rose; and how its end depends on the answer.
-pub record WritesOut {K T : Type 0} (written : K → Option (List ℕ)) (faults : K → ℕ) (finished : K → Bool) (old new : K) (result : Result T BuildError) : Type 0 where
-  pub writes : WritesSink written unsaid faults IsOutCause old new result
-  pub ends : EndsOut finished old new result
+  pub meets : IsCollectMet hash said media definition message other result

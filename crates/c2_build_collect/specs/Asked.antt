@@ -10,7 +10,7 @@ abbrev pub OneCollectPlanAsks : Type 0
 OneCollectPlanAsks = (hash : Alg → List ℕ → List ℕ) (said : Question → Verdict) (media definition other : List ℕ) (ps qs : List Question)
     → CollectPlanAsks hash said media definition other ps → CollectPlanAsks hash said media definition other qs → ps ≡ qs
 
--- and so does `embed_collect`
+-- `embed_collect` asks one list of questions at most over the same inputs
 abbrev pub OneCollectAsks : Type 0
 OneCollectAsks = (hash : Alg → List ℕ → List ℕ) (said : Question → Verdict) (media definition message other : List ℕ) (ps qs : List Question)
     → CollectAsks hash said media definition message other ps → CollectAsks hash said media definition message other qs → ps ≡ qs
@@ -20,7 +20,7 @@ abbrev pub SomeCollectPlanAsks : Type 0
 SomeCollectPlanAsks = (hash : Alg → List ℕ → List ℕ) (said : Question → Verdict) (media definition other : List ℕ)
     → All (λ b. b < 2 ^ 8) media → All (λ b. b < 2 ^ 8) other → (qs : List Question) × CollectPlanAsks hash said media definition other qs
 
--- and so does `embed_collect`, over each message besides
+-- `embed_collect` asks a list of questions over each two files, each definition file and each message
 abbrev pub SomeCollectAsks : Type 0
 SomeCollectAsks = (hash : Alg → List ℕ → List ℕ) (said : Question → Verdict) (media definition message other : List ℕ)
     → All (λ b. b < 2 ^ 8) media → All (λ b. b < 2 ^ 8) other → All (λ b. b < 2 ^ 8) message

@@ -11,17 +11,17 @@ use Rattle.c2_spec.specs.declared.digest.Alg.{Alg}
 use Rattle.c2_spec.specs.declared.panel.Verdict.{Verdict}
 use Rattle.c2_definition.specs.DefinitionFile.{IsWellFormed}
 use Rattle.c2_definition.specs.declared.types.Definition.{Definition}
-use Rattle.c2_new_store_spec.specs.Store.{new_alg}
+use Rattle.c2_new_file_spec.specs.Store.{new_alg}
 use Rattle.c2_collect_spec.specs.Order.{CollectRefusal, pair_readings}
 use Rattle.c2_collect_spec.specs.Outcomes.{CollectGround, IsCollectMade, IsGroundStage, IsPairStage, IsPutIn, NewFile, ground_refusals, new_file}
-use Rattle.c2_container.specs.Contained.{HasRootsInside}
+use Rattle.c2_container.specs.Contained.{IsWithin}
+use Rattle.c2_container.specs.declared.types.Contained.{Contained}
 use Rattle.c2_build_refusals.specs.Kinds.{WithoutFault}
 use Rattle.c2_build_refusals.specs.Refusals.{Ground}
 use Rattle.c2_build_refusals.specs.Stages.{HasTextsIn, MediaKind}
 use Rattle.c2_build_refusals.specs.declared.error.BuildError.{BuildError}
 use Rattle.c2_build_refusals.specs.declared.types.Drafted.{Drafted}
 use Rattle.c2_build_base.specs.Grounds.{IsFoundIn, IsKind, IsReadIn}
-use Rattle.c2_build_base.specs.declared.media.MediaFile.{MediaFile}
 use Rattle.c2_build_base.specs.declared.media.MediaRead.{MediaRead}
 use Rattle.c2_build_in_place.specs.Numbers.{IsOfFile}
 use Rattle.c2_build_in_place.specs.Writings.{CanWrite, ready_file}
@@ -41,8 +41,8 @@ IsFirstError refusals e = (refusal : CollectRefusal) × (others : List CollectRe
 -- ---- the media
 
 -- This was found of a media file of this length, whose bytes may be known.
-pub record IsFileFound (len : ℕ) (known : Option (List ℕ)) (m : MediaFile) : Type 0 where
-  pub inside : HasRootsInside len m.container
+pub record IsFileFound (len : ℕ) (known : Option (List ℕ)) (m : Contained) : Type 0 where
+  pub inside : IsWithin len m
   pub found : ForSome known (λ bytes. IsFoundIn bytes m)
 
 -- What was read of a media file of this length, and a definition that is well formed.

@@ -4,7 +4,7 @@ ghost use Rattle.c2_base.specs.Causes.{Rose};
 ghost use Rattle.c2_base.specs.Source.{ReadsSource};
 ghost use Rattle.c2_spec.specs.Judges.Panel.{panel_says};
 ghost use Rattle.c2_rules.specs.Asking.{HearsPanel};
-ghost use Rattle.c2_new_store_spec.specs.Store.{new_alg};
+ghost use Rattle.c2_new_file_spec.specs.Store.{new_alg};
 ghost use Rattle.c2_without_store.specs.Clears.{cleared_len};
 ghost use Rattle.c2_build_refusals.specs.Kinds.{build_heard};
 ghost use Rattle.c2_build_base.specs.Grounds.{IsReadIn};
@@ -13,15 +13,13 @@ ghost use Rattle.c2_build_parts.specs.Bound.{IsSmall};
 ghost use Rattle.c2_build_collect.specs.Steps.{ForFiles, IsDraftOf, LeavesOther};
 
 use c2_base::Source;
-use c2_build_base::{MediaRead, form_of};
+use c2_build_base::MediaRead;
 use c2_build_collect_base::Collector;
 use c2_build_drafts::draft_in_place;
 use c2_build_refusals::{BuildError, Drafted};
-use c2_collect_spec::the_length_of_a_collected_store_fits;
 use c2_definition::Definition;
 use c2_hash::Hashing;
 use c2_judge::Judge;
-use c2_new_file_spec::each_media_has_a_place;
 use std::alloc::Global;
 
 /// What a build is made of, once the media file and the definition are read.
@@ -41,7 +39,7 @@ pub(crate) struct Build<'b, 't, H> {
 }
 
 impl<'b, 't, H: Hashing> Build<'b, 't, H> {
-    /// What is to be built over both files. Judges are asked what the checks of both ask, and the place in the media is looked for after that.
+    /// What is to be built over both files. Judges are asked what the checks of both ask.
     pub(crate) fn drafted<A: Source, D: Source>(
         &self,
         media: &mut A,
@@ -69,10 +67,6 @@ impl<'b, 't, H: Hashing> Build<'b, 't, H> {
             (PairHears H.digest_of (A.known media.old) (D.known other.old) self.now.file.now)
             judges.old judges.new result }
     {
-        // Only the prover needs these laws.
-        each_media_has_a_place();
-        the_length_of_a_collected_store_fits();
-        let form = form_of(self.file.container);
         let collector = Collector {
             alloc: self.alloc,
             hashing: self.hashing,
@@ -83,6 +77,6 @@ impl<'b, 't, H: Hashing> Build<'b, 't, H> {
             Ok(ground) => ground,
             Err(error) => return Err(error),
         };
-        draft_in_place(self.alloc, media, form, &self.definition, ground)
+        draft_in_place(self.alloc, self.file.contained, &self.definition, ground)
     }
 }

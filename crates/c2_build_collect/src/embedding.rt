@@ -1,11 +1,11 @@
 // Writing a new file whose store collects.
-ghost use Rattle.std.specs.Prelude.{◌⊎◌, map};
-ghost use Rattle.c2_base.specs.Causes.{Rose};
-ghost use Rattle.c2_base.specs.Source.{ReadsSource};
+ghost use Rattle.std.specs.Prelude.{map};
+ghost use Rattle.c2_build_endings.specs.Endings.{WritesOut};
+ghost use Rattle.c2_build_endings.specs.Sources.{use_of};
 ghost use Rattle.c2_spec.specs.Judges.Panel.{panel_says};
 ghost use Rattle.c2_rules.specs.Asking.{HearsPanel};
 ghost use Rattle.c2_build_refusals.specs.Kinds.{build_heard};
-ghost use Rattle.c2_build_collect.specs.Answers.{AsksEmbedded, EmbedsCollected, ForEmbedInputs, IsEmbedCause, IsPrepareCause, LeavesBuildUndue, WritesOut};
+ghost use Rattle.c2_build_collect.specs.Answers.{AsksEmbedded, EmbedsCollected, ForEmbedInputs, IsEmbedCause, IsPrepareCause, LeavesBuildUndue, ReadsSignedPair};
 ghost use Rattle.c2_build_collect.specs.Steps.{IsBuildDrafted, IsPrepared};
 
 use crate::ready::{Builder, Maker};
@@ -15,9 +15,6 @@ use c2_build_drafts::{DraftedBuild, make_ready};
 use c2_build_in_place::{Ready, write_file};
 use c2_build_refusals::{BuildError, Embedded};
 use c2_build_writing::copy_fault;
-use c2_collect_spec::{
-    a_collected_build_comes_to_one_thing, a_made_collected_file_meets_the_rules,
-};
 use c2_definition::each_definition_is_read_one_way;
 use c2_hash::Hashing;
 use c2_judge::Judge;
@@ -42,31 +39,15 @@ impl<'h, H: Hashing> Maker<'h, H> {
             LeavesBuildUndue H.digest_of said (A.known media.old) (B.known definition.old)
             (C.known signature.old) definition.old definition.new signature.old signature.new
             other.old other.new }
-        ensures media { ReadsSource A.len A.known A.faults (IsPrepareCause
-            (Rose (B.faults definition.old) (B.faults definition.new)
-            ⊎ (Rose (C.faults signature.old) (C.faults signature.new)
-            ⊎ Rose (D.faults other.old) (D.faults other.new))))
-            media.old media.new result }
-        ensures definition { ReadsSource B.len B.known B.faults (IsPrepareCause
-            (Rose (A.faults media.old) (A.faults media.new)
-            ⊎ (Rose (C.faults signature.old) (C.faults signature.new)
-            ⊎ Rose (D.faults other.old) (D.faults other.new))))
-            definition.old definition.new result }
-        ensures message { ReadsSource C.len C.known C.faults (IsPrepareCause
-            (Rose (A.faults media.old) (A.faults media.new)
-            ⊎ (Rose (B.faults definition.old) (B.faults definition.new)
-            ⊎ Rose (D.faults other.old) (D.faults other.new))))
-            signature.old signature.new result }
-        ensures other { ReadsSource D.len D.known D.faults (IsPrepareCause
-            (Rose (A.faults media.old) (A.faults media.new)
-            ⊎ (Rose (B.faults definition.old) (B.faults definition.new)
-            ⊎ Rose (C.faults signature.old) (C.faults signature.new))))
-            other.old other.new result }
+        ensures sources { ReadsSignedPair IsPrepareCause
+            (use_of A.len A.known A.faults media.old media.new)
+            (use_of B.len B.known B.faults definition.old definition.new)
+            (use_of C.len C.known C.faults signature.old signature.new)
+            (use_of D.len D.known D.faults other.old other.new) result }
         ensures panel { HearsPanel says asked_times judge_faults build_heard (AsksEmbedded
             H.digest_of (A.known media.old) (B.known definition.old) (C.known signature.old)
             (D.known other.old)) judges.old judges.new result }
     {
-        // Only the prover needs this law.
         one_opening();
         let file = match open_media(self.alloc, media) {
             Ok(file) => file,
@@ -97,26 +78,11 @@ impl<'h, H: Hashing> Maker<'h, H> {
             LeavesBuildUndue H.digest_of said (A.known media.old) (B.known definition.old)
             (C.known signature.old) definition.old definition.new signature.old signature.new
             other.old other.new }
-        ensures media { ReadsSource A.len A.known A.faults (IsPrepareCause
-            (Rose (B.faults definition.old) (B.faults definition.new)
-            ⊎ (Rose (C.faults signature.old) (C.faults signature.new)
-            ⊎ Rose (D.faults other.old) (D.faults other.new))))
-            media.old media.new result }
-        ensures definition { ReadsSource B.len B.known B.faults (IsPrepareCause
-            (Rose (A.faults media.old) (A.faults media.new)
-            ⊎ (Rose (C.faults signature.old) (C.faults signature.new)
-            ⊎ Rose (D.faults other.old) (D.faults other.new))))
-            definition.old definition.new result }
-        ensures message { ReadsSource C.len C.known C.faults (IsPrepareCause
-            (Rose (A.faults media.old) (A.faults media.new)
-            ⊎ (Rose (B.faults definition.old) (B.faults definition.new)
-            ⊎ Rose (D.faults other.old) (D.faults other.new))))
-            signature.old signature.new result }
-        ensures other { ReadsSource D.len D.known D.faults (IsPrepareCause
-            (Rose (A.faults media.old) (A.faults media.new)
-            ⊎ (Rose (B.faults definition.old) (B.faults definition.new)
-            ⊎ Rose (C.faults signature.old) (C.faults signature.new))))
-            other.old other.new result }
+        ensures sources { ReadsSignedPair IsPrepareCause
+            (use_of A.len A.known A.faults media.old media.new)
+            (use_of B.len B.known B.faults definition.old definition.new)
+            (use_of C.len C.known C.faults signature.old signature.new)
+            (use_of D.len D.known D.faults other.old other.new) result }
         ensures panel { HearsPanel says asked_times judge_faults build_heard (AsksEmbedded
             H.digest_of (A.known media.old) (B.known definition.old) (C.known signature.old)
             (D.known other.old)) judges.old judges.new result }
@@ -167,35 +133,16 @@ pub fn embed_collect<A: Source, B: Source, C: Source, D: Source, K: Sink, H: Has
         other.old other.new }
 
     // These hold of every source; just the questions of the build are asked where the bytes are known that tell them.
-    ensures media { ReadsSource A.len A.known A.faults (IsEmbedCause
-        (Rose (B.faults definition.old) (B.faults definition.new)
-        ⊎ (Rose (C.faults signature.old) (C.faults signature.new)
-        ⊎ Rose (D.faults other.old) (D.faults other.new))))
-        media.old media.new result }
-    ensures definition { ReadsSource B.len B.known B.faults (IsEmbedCause
-        (Rose (A.faults media.old) (A.faults media.new)
-        ⊎ (Rose (C.faults signature.old) (C.faults signature.new)
-        ⊎ Rose (D.faults other.old) (D.faults other.new))))
-        definition.old definition.new result }
-    ensures message { ReadsSource C.len C.known C.faults (IsEmbedCause
-        (Rose (A.faults media.old) (A.faults media.new)
-        ⊎ (Rose (B.faults definition.old) (B.faults definition.new)
-        ⊎ Rose (D.faults other.old) (D.faults other.new))))
-        signature.old signature.new result }
-    ensures other { ReadsSource D.len D.known D.faults (IsEmbedCause
-        (Rose (A.faults media.old) (A.faults media.new)
-        ⊎ (Rose (B.faults definition.old) (B.faults definition.new)
-        ⊎ Rose (C.faults signature.old) (C.faults signature.new))))
-        other.old other.new result }
+    ensures sources { ReadsSignedPair IsEmbedCause
+        (use_of A.len A.known A.faults media.old media.new)
+        (use_of B.len B.known B.faults definition.old definition.new)
+        (use_of C.len C.known C.faults signature.old signature.new)
+        (use_of D.len D.known D.faults other.old other.new) result }
     ensures sink { WritesOut K.written K.faults K.finished out.old out.new result }
     ensures panel { HearsPanel says asked_times judge_faults build_heard (AsksEmbedded
         H.digest_of (A.known media.old) (B.known definition.old) (C.known signature.old)
         (D.known other.old)) judges.old judges.new result }
 {
-    // Only the prover needs these laws.
-    a_collected_build_comes_to_one_thing();
-    a_made_collected_file_meets_the_rules();
-    one_opening();
     each_definition_is_read_one_way();
     let maker = Maker { alloc, hashing };
     let ready = match maker.prepare(media, definition, signature, other, judges) {

@@ -1,7 +1,8 @@
 // What is to be signed of a new manifest whose store collects.
-ghost use Rattle.std.specs.Prelude.{◌⊎◌, map};
+ghost use Rattle.std.specs.Prelude.{map};
 ghost use Rattle.c2_base.specs.Causes.{Rose};
 ghost use Rattle.c2_base.specs.Source.{ReadsSource};
+ghost use Rattle.c2_build_endings.specs.Sources.{use_of};
 ghost use Rattle.c2_spec.specs.Judges.Panel.{panel_says};
 ghost use Rattle.c2_rules.specs.Asking.{HearsPanel};
 ghost use Rattle.c2_collect_spec.specs.Outcomes.{IsCollectPlanned, IsPairStage, IsPlannedOver, Then};
@@ -9,7 +10,7 @@ ghost use Rattle.c2_build_refusals.specs.Kinds.{build_heard};
 ghost use Rattle.c2_build_in_place.specs.Numbers.{IsOfFile};
 ghost use Rattle.c2_build_collect_base.specs.Errors.{IsAnswerTo};
 ghost use Rattle.c2_build_collect_base.specs.Grounds.{IsGroundCause, PairHears};
-ghost use Rattle.c2_build_collect.specs.Answers.{AsksPlanned, ForPlanInputs, LeavesPlanUndue};
+ghost use Rattle.c2_build_collect.specs.Answers.{AsksPlanned, ForPlanInputs, LeavesPlanUndue, ReadsPlannedPair};
 ghost use Rattle.c2_build_collect.specs.Steps.{ForFiles, IsBuildRead, IsFileFound, LeavesOther};
 
 use crate::drafting::Build;
@@ -78,23 +79,14 @@ impl<'b, H: Hashing> Builder<'b, H> {
         ensures not_due { let said = panel_says (map says judges.old.items) in
             LeavesPlanUndue H.digest_of said (A.known media.old) (B.known definition.old)
             definition.old definition.new other.old other.new }
-        ensures media { ReadsSource A.len A.known A.faults (IsGroundCause
-            (Rose (B.faults definition.old) (B.faults definition.new)
-            ⊎ Rose (D.faults other.old) (D.faults other.new)))
-            media.old media.new result }
-        ensures definition { ReadsSource B.len B.known B.faults (IsGroundCause
-            (Rose (A.faults media.old) (A.faults media.new)
-            ⊎ Rose (D.faults other.old) (D.faults other.new)))
-            definition.old definition.new result }
-        ensures other { ReadsSource D.len D.known D.faults (IsGroundCause
-            (Rose (A.faults media.old) (A.faults media.new)
-            ⊎ Rose (B.faults definition.old) (B.faults definition.new)))
-            other.old other.new result }
+        ensures sources { ReadsPlannedPair IsGroundCause
+            (use_of A.len A.known A.faults media.old media.new)
+            (use_of B.len B.known B.faults definition.old definition.new)
+            (use_of D.len D.known D.faults other.old other.new) result }
         ensures panel { HearsPanel says asked_times judge_faults build_heard (AsksPlanned
             H.digest_of (A.known media.old) (B.known definition.old) (D.known other.old))
             judges.old judges.new result }
     {
-        // Only the prover needs these laws.
         one_opening();
         each_definition_is_read_one_way();
         let read = match read_media(self.alloc, self.file) {
@@ -150,24 +142,14 @@ pub fn plan_collect<A: Source, B: Source, D: Source, H: Hashing>(
         definition.old definition.new other.old other.new }
 
     // These hold of every source; just the questions of the build are asked where the bytes are known that tell them.
-    ensures media { ReadsSource A.len A.known A.faults (IsGroundCause
-        (Rose (B.faults definition.old) (B.faults definition.new)
-        ⊎ Rose (D.faults other.old) (D.faults other.new)))
-        media.old media.new result }
-    ensures definition { ReadsSource B.len B.known B.faults (IsGroundCause
-        (Rose (A.faults media.old) (A.faults media.new)
-        ⊎ Rose (D.faults other.old) (D.faults other.new)))
-        definition.old definition.new result }
-    ensures other { ReadsSource D.len D.known D.faults (IsGroundCause
-        (Rose (A.faults media.old) (A.faults media.new)
-        ⊎ Rose (B.faults definition.old) (B.faults definition.new)))
-        other.old other.new result }
+    ensures sources { ReadsPlannedPair IsGroundCause
+        (use_of A.len A.known A.faults media.old media.new)
+        (use_of B.len B.known B.faults definition.old definition.new)
+        (use_of D.len D.known D.faults other.old other.new) result }
     ensures panel { HearsPanel says asked_times judge_faults build_heard (AsksPlanned
         H.digest_of (A.known media.old) (B.known definition.old) (D.known other.old))
         judges.old judges.new result }
 {
-    // Only the prover needs this law.
-    one_opening();
     let file = match open_media(alloc, media) {
         Ok(file) => file,
         Err(error) => return Err(error),

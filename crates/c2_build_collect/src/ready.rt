@@ -1,7 +1,8 @@
 // What is to be built with a message.
-ghost use Rattle.std.specs.Prelude.{◌⊎◌, IfOk, map};
+ghost use Rattle.std.specs.Prelude.{IfOk, map};
 ghost use Rattle.c2_base.specs.Causes.{Rose};
 ghost use Rattle.c2_base.specs.Source.{ReadsSource};
+ghost use Rattle.c2_build_endings.specs.Sources.{use_of};
 ghost use Rattle.c2_spec.specs.C2pa.Message.{CanBePadded};
 ghost use Rattle.c2_spec.specs.C2pa.Sign1.{parts_of};
 ghost use Rattle.c2_spec.specs.Cbor.Item.{Pairs};
@@ -12,23 +13,19 @@ ghost use Rattle.c2_build_refusals.specs.Kinds.{build_heard};
 ghost use Rattle.c2_build_in_place.specs.Numbers.{IsOfFile};
 ghost use Rattle.c2_build_drafts.specs.Drafts.{FitsMedia};
 ghost use Rattle.c2_build_collect_base.specs.Grounds.{PairHears};
-ghost use Rattle.c2_build_collect.specs.Answers.{AsksEmbedded, IsPrepareCause, LeavesBuildUndue};
+ghost use Rattle.c2_build_collect.specs.Answers.{AsksEmbedded, IsPrepareCause, LeavesBuildUndue, ReadsSignedPair};
 ghost use Rattle.c2_build_collect.specs.Steps.{ForFiles, IsBuildDrafted, IsBuildFor, IsBuildRead, IsFileFound, LeavesOther};
 
 use crate::drafting::Build;
 use c2_base::Source;
-use c2_build_base::{MediaFile, read_media};
+use c2_build_base::read_media;
 use c2_build_drafts::DraftedBuild;
 use c2_build_refusals::{BuildError, padded, read_definition_file, read_message_file};
-use c2_cbor_spec::one_item;
-use c2_definition::each_definition_is_read_one_way;
+use c2_container::Contained;
 use c2_hash::Hashing;
 use c2_judge::Judge;
-use c2_new_signature::{
-    a_message_fills_its_reserve_or_needs_more, each_message_is_accepted_or_refused_for_one_test,
-};
+use c2_new_signature::a_message_fills_its_reserve_or_needs_more;
 use c2_sigstruct::Sign1;
-use c2_validate::one_opening;
 use std::alloc::Global;
 
 /// What builds are made with, once the media file is opened.
@@ -41,7 +38,7 @@ pub(crate) struct Builder<'b, H> {
     pub(crate) hashing: &'b H,
 
     /// What was found of the media file.
-    pub(crate) file: &'b MediaFile,
+    pub(crate) file: &'b Contained,
 }
 
 /// What new files are made ready with.
@@ -85,7 +82,6 @@ impl<'b, 't, H: Hashing> Build<'b, 't, H> {
             (PairHears H.digest_of (A.known media.old) (D.known other.old) self.entry.file.now)
             judges.old judges.new result }
     {
-        // Only the prover needs this law.
         a_message_fills_its_reserve_or_needs_more();
         let drafted = match self.drafted(media, other, judges) {
             Ok(drafted) => drafted,
@@ -120,35 +116,15 @@ impl<'b, H: Hashing> Builder<'b, H> {
             LeavesBuildUndue H.digest_of said (A.known media.old) (B.known definition.old)
             (C.known signature.old) definition.old definition.new signature.old signature.new
             other.old other.new }
-        ensures media { ReadsSource A.len A.known A.faults (IsPrepareCause
-            (Rose (B.faults definition.old) (B.faults definition.new)
-            ⊎ (Rose (C.faults signature.old) (C.faults signature.new)
-            ⊎ Rose (D.faults other.old) (D.faults other.new))))
-            media.old media.new result }
-        ensures definition { ReadsSource B.len B.known B.faults (IsPrepareCause
-            (Rose (A.faults media.old) (A.faults media.new)
-            ⊎ (Rose (C.faults signature.old) (C.faults signature.new)
-            ⊎ Rose (D.faults other.old) (D.faults other.new))))
-            definition.old definition.new result }
-        ensures message { ReadsSource C.len C.known C.faults (IsPrepareCause
-            (Rose (A.faults media.old) (A.faults media.new)
-            ⊎ (Rose (B.faults definition.old) (B.faults definition.new)
-            ⊎ Rose (D.faults other.old) (D.faults other.new))))
-            signature.old signature.new result }
-        ensures other { ReadsSource D.len D.known D.faults (IsPrepareCause
-            (Rose (A.faults media.old) (A.faults media.new)
-            ⊎ (Rose (B.faults definition.old) (B.faults definition.new)
-            ⊎ Rose (C.faults signature.old) (C.faults signature.new))))
-            other.old other.new result }
+        ensures sources { ReadsSignedPair IsPrepareCause
+            (use_of A.len A.known A.faults media.old media.new)
+            (use_of B.len B.known B.faults definition.old definition.new)
+            (use_of C.len C.known C.faults signature.old signature.new)
+            (use_of D.len D.known D.faults other.old other.new) result }
         ensures panel { HearsPanel says asked_times judge_faults build_heard (AsksEmbedded
             H.digest_of (A.known media.old) (B.known definition.old) (C.known signature.old)
             (D.known other.old)) judges.old judges.new result }
     {
-        // Only the prover needs these laws.
-        one_opening();
-        each_definition_is_read_one_way();
-        one_item();
-        each_message_is_accepted_or_refused_for_one_test();
         let read = match read_media(self.alloc, self.file) {
             Ok(read) => read,
             Err(error) => return Err(error),

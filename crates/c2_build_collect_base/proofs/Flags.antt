@@ -11,7 +11,8 @@ use Rattle.c2_collect.specs.Marked.{flag_at}
 use Rattle.c2_build_collect_base.specs.Steps.{AreFirstFlags, AreFlags}
 
 -- one flag more
-pub flags_more : (rs : List Reading) (n : ℕ) (flags next : List Bool) (flag : Bool) → AreFirstFlags rs n flags → flag ≡ is_reached rs n → next ≡ flags ++ flag ∷ [] → AreFirstFlags rs (n + 1) next
+pub flags_more : (rs : List Reading) (n : ℕ) (flags next : List Bool) (flag : Bool) → AreFirstFlags rs n flags
+    → flag ≡ is_reached rs n → next ≡ flags ++ flag ∷ [] → AreFirstFlags rs (n + 1) next
 flags_more rs n flags next flag h is e = record {
   count = ap length e ∙ length-append flags (flag ∷ []) ∙ ap (λ k. k + 1) h.count;
   are = λ i lt. ap (λ (x : List Bool). flag_at x i) e ∙ at i lt;
@@ -32,10 +33,12 @@ none_behind rs i differ le = by (is_reached rs i) refl
     by false e = e
     by true e = let lt : i < length rs = reached_within rs i ((reached_decides rs differ i).0 e) in absurd (omega (arith, lt, le))
 
--- so the flags of all are those of the chain
-pub all_flags : (rs : List Reading) (n : ℕ) (flags : List Bool) → LabelsDiffer rs → AreFirstFlags rs n flags → n ≡ length rs → AreFlags rs flags
+-- the flags of all manifests are those of the chain
+pub all_flags : (rs : List Reading) (n : ℕ) (flags : List Bool) → LabelsDiffer rs → AreFirstFlags rs n flags
+    → n ≡ length rs → AreFlags rs flags
 all_flags rs n flags differ h end = record { count = h.count ∙ end; are = fun_ext at }
   where
     at : (i : ℕ) → flag_at flags i ≡ is_reached rs i
     at i = ⊎_elim (λ lt. h.are i (omega (arith, lt, end)))
-        (λ le. get_or_past flags i false (omega (arith, le, end, h.count)) ∙ sym (none_behind rs i differ le)) (cases_lt i (length rs))
+        (λ le. get_or_past flags i false (omega (arith, le, end, h.count)) ∙ sym (none_behind rs i differ le))
+        (cases_lt i (length rs))

@@ -1,12 +1,13 @@
-mod Told
-mod Flags
 mod Boxed
-mod Lasts
-mod Stages
 mod Files
+mod Flags
 mod Heard
-mod Pair
-mod Opened
-mod Named
 mod Joins
+mod Lasts
+mod Named
+mod Opened
+mod Pair
+mod Stages
 mod Tests
+pub mod TheLaws
+mod Told

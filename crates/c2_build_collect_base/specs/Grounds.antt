@@ -11,7 +11,7 @@ use Rattle.c2_spec.specs.Located.{Opening, absent, here}
 use Rattle.c2_spec.specs.declared.digest.Alg.{Alg}
 use Rattle.c2_spec.specs.declared.panel.Verdict.{Verdict}
 use Rattle.c2_definition.specs.declared.types.Definition.{Definition}
-use Rattle.c2_new_store_spec.specs.Store.{Content}
+use Rattle.c2_new_file_spec.specs.Store.{Content}
 use Rattle.c2_layout.specs.Parts.{IsContent}
 use Rattle.c2_without_store.specs.Clears.{cleared}
 use Rattle.c2_collect_spec.specs.Collected.{CollectsFrom}
@@ -75,7 +75,8 @@ pub record IsCollectedGround (hash : List ℕ → List ℕ) (media : List ℕ) (
   pub is : IsContent hash d k.carried content
   pub manifests : k.manifests ≡ length (pair_readings p) + 1
 
--- it is built over what both files come to, or refused with the error of what is refused of them first
+-- what a new file is built over, by the outcome of both files, or the error of what is refused of them first, unless that says nothing of
+-- the inputs
 abbrev pub IsGroundOf : (List ℕ → List ℕ) → List ℕ → Definition → (Result FilePair CollectRefusal → Type 0) → Result BuildBase BuildError → Type 0
 IsGroundOf hash media d Is (Ok k) = (p : FilePair) × Is (Ok p) × IsCollectedGround hash media d k p
 IsGroundOf hash media d Is (Err e) = WithoutFault e (IsRefusedWith Is e)

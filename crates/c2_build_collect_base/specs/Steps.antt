@@ -22,12 +22,12 @@ use Rattle.c2_rules.specs.declared.answer.Answer.{Answer}
 use Rattle.c2_rules.specs.declared.answer.Answer.TheVariants as answers
 use Rattle.c2_definition.specs.declared.types.Definition.{Definition}
 use Rattle.c2_definition.specs.declared.types.NewAssertion.{NewAssertion}
-use Rattle.c2_new_store_spec.specs.Manifests.{supers_in}
-use Rattle.c2_new_store_spec.specs.Store.{NamedManifest, ingredient_assertion}
-use Rattle.c2_parent_spec.specs.Parents.{IsParentOf}
-use Rattle.c2_parent_spec.specs.declared.refused.RefusedRedaction.{RefusedRedaction}
+use Rattle.c2_new_file_spec.specs.Manifests.{supers_in}
+use Rattle.c2_new_file_spec.specs.Store.{NamedManifest, ingredient_assertion}
+use Rattle.c2_new_file_spec.specs.Parents.{IsParentOf}
+use Rattle.c2_new_file_spec.specs.declared.refused.RefusedRedaction.{RefusedRedaction}
 use Rattle.c2_parent.specs.Both.{IsFirstRefusedOfBoth}
-use Rattle.c2_parent_spec.specs.Redacting.{boxes_in, redacted_boxes}
+use Rattle.c2_new_file_spec.specs.Redacting.{boxes_in, redacted_boxes}
 use Rattle.c2_chain_spec.specs.Rooted.{last_roots}
 use Rattle.c2_layout.specs.Parts.{AreRefs}
 use Rattle.c2_layout.specs.declared.carried.ManifestRefs.{ManifestRefs}
@@ -87,7 +87,7 @@ IsUnopened file (answers.Refused reason number) = IsOpened file (refused reason 
 IsUnopened file answers.NoStore = IsOpened file absent
 IsUnopened file a = ⊥
 
--- so it is refused
+-- a file is refused as one that can't be opened or has no store
 abbrev pub IsOpeningError : List ℕ → BuildError → Type 0
 IsOpeningError file e = (a : Answer) × IsUnopened file a × (e ≡ OtherRefused a)
 
@@ -113,7 +113,7 @@ pub record IsReadStore (s : ReadStore) : Type 0 where
   pub boxes : IsStoreOf s.older.now.tree s.older.now.store
   pub reads : AreReadings (manifests_of s.older.now.tree) s.chain.now.readings
 
--- the same of a store where there is one
+-- where there is a store, its boxes and its chain are those of its tree
 abbrev pub IsReadOrNone : Option ReadStore → Type 0
 IsReadOrNone None = ⊤
 IsReadOrNone (Some s) = IsReadStore s
@@ -131,7 +131,7 @@ abbrev pub old_boxes : Option ReadStore → Trees
 old_boxes None = none
 old_boxes (Some s) = boxes_of s
 
--- what they are read as
+-- what the manifests of a store are read as; nothing without a store
 abbrev pub old_readings : Option ReadStore → List Reading
 old_readings None = []
 old_readings (Some s) = readings_of s

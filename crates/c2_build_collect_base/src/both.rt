@@ -1,6 +1,6 @@
 // Both files, once their stores are read and checked.
 ghost use Rattle.std.specs.Prelude.{◌≡◌, ℕ, Bool, List, IfErr, IfOk};
-ghost use Rattle.c2_new_store_spec.specs.Store.{new_alg};
+ghost use Rattle.c2_new_file_spec.specs.Store.{new_alg};
 ghost use Rattle.c2_collect_spec.specs.Collected.{JoinedReaches, collected_readings};
 ghost use Rattle.c2_collect_spec.specs.Order.{MediaFile, OtherFile};
 ghost use Rattle.c2_collect_spec.specs.Outcomes.{IsJoinedStage};
@@ -23,10 +23,10 @@ use c2_collect_spec::{what_is_collected_is_one, what_is_joined_is_reached};
 use c2_hash::Hashing;
 use c2_jumbf::{count, each_list_is_a_tree_or_not};
 use c2_layout::Carried;
+use c2_new_file_spec::RefusedRedaction;
 use c2_parent::{
     has_joined_manifest, has_reached_manifest, redactions_of, refused_in_both, refused_in_carried,
 };
-use c2_parent_spec::RefusedRedaction;
 
 impl<'d, H: Hashing> Collector<'d, H> {
     // Whether one of the joined manifests has the new label.
@@ -124,10 +124,9 @@ impl<'d, H: Hashing> Collector<'d, H> {
             → IsOurs hash file ours.now m → IsTheirs hash theirs.now o
             → IsGroundOf (H.digest_of (new_alg d)) file d (IsJoinedStage d m o) result }
         ensures some { let d = self.now.definition.now in
-            IfOk result (IsSomeGround (H.digest_of (new_alg d)) d) }
+            IfOk result (IsSomeGround (H.digest_of (new_alg d)) d ours.now.clearing) }
         ensures inner { IfErr result IsInner }
     {
-        // Only the prover needs these laws.
         what_is_collected_is_one();
         what_is_joined_is_reached();
         chains_join();

@@ -7,7 +7,7 @@ ghost use Rattle.c2_spec.specs.C2pa.Manifest.{IsStoreOf};
 ghost use Rattle.c2_spec.specs.Judges.Panel.{panel_says};
 ghost use Rattle.c2_rules.specs.Asking.{HearsPanel};
 ghost use Rattle.c2_calls_spec.specs.Asks.{AsksKnown};
-ghost use Rattle.c2_new_store_spec.specs.Store.{new_alg};
+ghost use Rattle.c2_new_file_spec.specs.Store.{new_alg};
 ghost use Rattle.c2_collect_spec.specs.Order.{MediaFile};
 ghost use Rattle.c2_collect_spec.specs.Outcomes.{IsJoinedStage, IsOtherStage, IsPairStage, Then};
 ghost use Rattle.c2_container.specs.Contained.{HasRootsInside};
@@ -52,14 +52,13 @@ impl<'d, H: Hashing> Collector<'d, H> {
             → IsOurs H.digest_of file ours.now m → IsGroundOf (H.digest_of (new_alg d)) file d
             (Then (IsOtherStage H.digest_of said others) (IsJoinedStage d m)) result) }
         ensures some { let d = self.now.definition.now in
-            IfOk result (IsSomeGround (H.digest_of (new_alg d)) d) }
+            IfOk result (IsSomeGround (H.digest_of (new_alg d)) d ours.now.clearing) }
         ensures reads { ReadsSource D.len D.known D.faults (IsGroundCause ⊥)
             other.old other.new result }
         ensures panel { HearsPanel says asked_times judge_faults build_heard
             (AsksKnown (D.known other.old) (FileAsks H.digest_of))
             judges.old judges.new result }
     {
-        // Only the prover needs these laws.
         one_opening();
         one_reading();
         a_store_is_rooted_at_its_last_manifest();
@@ -94,14 +93,13 @@ impl<'d, H: Hashing> Collector<'d, H> {
             → IsOurs H.digest_of file ours.now m → IsGroundOf (H.digest_of (new_alg d)) file d
             (Then (IsOtherStage H.digest_of said others) (IsJoinedStage d m)) result) }
         ensures some { let d = self.now.definition.now in
-            IfOk result (IsSomeGround (H.digest_of (new_alg d)) d) }
+            IfOk result (IsSomeGround (H.digest_of (new_alg d)) d ours.now.clearing) }
         ensures reads { ReadsSource D.len D.known D.faults (IsGroundCause ⊥)
             other.old other.new result }
         ensures panel { HearsPanel says asked_times judge_faults build_heard
             (AsksKnown (D.known other.old) (FileAsks H.digest_of))
             judges.old judges.new result }
     {
-        // Only the prover needs this law.
         one_opening();
         let read = match read_other(self.alloc, found) {
             Ok(read) => read,
@@ -124,14 +122,13 @@ impl<'d, H: Hashing> Collector<'d, H> {
             → IsOurs H.digest_of file ours.now m → IsGroundOf (H.digest_of (new_alg d)) file d
             (Then (IsOtherStage H.digest_of said others) (IsJoinedStage d m)) result) }
         ensures some { let d = self.now.definition.now in
-            IfOk result (IsSomeGround (H.digest_of (new_alg d)) d) }
+            IfOk result (IsSomeGround (H.digest_of (new_alg d)) d ours.now.clearing) }
         ensures reads { ReadsSource D.len D.known D.faults (IsGroundCause ⊥)
             other.old other.new result }
         ensures panel { HearsPanel says asked_times judge_faults build_heard
             (AsksKnown (D.known other.old) (FileAsks H.digest_of))
             judges.old judges.new result }
     {
-        // Only the prover needs this law.
         one_opening();
         let found = match open_other(self.alloc, other) {
             Ok(found) => found,
@@ -163,7 +160,7 @@ impl<'d, H: Hashing> Collector<'d, H> {
             → IsParentRefused H.digest_of said bytes (opening_of kind)
             → other.new ≡ other.old) }
         ensures some { let d = self.now.definition.now in
-            IfOk result (IsSomeGround (H.digest_of (new_alg d)) d) }
+            IfOk result (IsSomeGround (H.digest_of (new_alg d)) d file.now.clearing) }
         ensures media { ReadsSource A.len A.known A.faults
             (IsGroundCause (Rose (D.faults other.old) (D.faults other.new)))
             media.old media.new result }
@@ -174,7 +171,6 @@ impl<'d, H: Hashing> Collector<'d, H> {
             (PairHears H.digest_of (A.known media.old) (D.known other.old) file.now)
             judges.old judges.new result }
     {
-        // Only the prover needs these laws.
         one_opening();
         one_reading();
         a_store_is_rooted_at_its_last_manifest();
@@ -183,7 +179,7 @@ impl<'d, H: Hashing> Collector<'d, H> {
             Ok(chain) => chain,
             Err(NoMemory) => return Err(BuildError::NoMemory),
         };
-        let store = opened_in(file.container, older.range, &chain);
+        let store = opened_in(&file.contained.container, older.range, &chain);
         match check_parent(self.alloc, self.hashing, media, &store, judges) {
             Ok(()) => {}
             Err(error) => return Err(error),
@@ -228,7 +224,7 @@ impl<'d, H: Hashing> Collector<'d, H> {
 
         // These hold of every two files.
         ensures some { let d = self.now.definition.now in
-            IfOk result (IsSomeGround (H.digest_of (new_alg d)) d) }
+            IfOk result (IsSomeGround (H.digest_of (new_alg d)) d file.now.clearing) }
         ensures media { ReadsSource A.len A.known A.faults
             (IsGroundCause (Rose (D.faults other.old) (D.faults other.new)))
             media.old media.new result }

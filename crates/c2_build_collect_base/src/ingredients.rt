@@ -1,6 +1,6 @@
 // The ingredients of the new manifest.
 ghost use Rattle.std.specs.Prelude.{IfOk, None, Some};
-ghost use Rattle.c2_new_store_spec.specs.Store.{new_alg};
+ghost use Rattle.c2_new_file_spec.specs.Store.{new_alg};
 ghost use Rattle.c2_build_collect_base.specs.Steps.{AreLastRefs, IsLastIngredient, IsReadOrNone, IsReadStore, NameLast, boxes_of, ingredient_stores, left_in};
 
 use crate::stores::ReadStore;
@@ -75,7 +75,7 @@ impl<'d, H: Hashing> Collector<'d, H> {
         Ok(all)
     }
 
-    // Those of the parent and of the component.
+    // The ingredient assertions of the parent and of the component.
     fn parent_and_component<'s>(
         &self,
         ours: &ReadStore<'s, '_, '_>,

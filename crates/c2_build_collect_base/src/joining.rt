@@ -18,10 +18,10 @@ use std::alloc::Global;
 /// Boxes that stand before a new manifest.
 #[derive(Drop)]
 pub(crate) struct JoinedBoxes {
-    /// They, one after the other.
+    /// The boxes, one after the other.
     pub(crate) boxes: Blob,
 
-    /// How many manifests they are with the new one.
+    /// How many manifests the boxes are with the new one.
     pub(crate) manifests: u64,
 }
 

@@ -92,7 +92,6 @@ pub(crate) fn check_other<D: Source, H: Hashing>(
     ensures panel { HearsPanel says asked_times judge_faults build_heard
         (StoreAsks H.digest_of store.now) judges.old judges.new result }
 {
-    // Only the prover needs this law.
     a_store_answers_for_its_file();
     let checked = match check(alloc, hashing, other, store, judges) {
         Ok(checked) => checked,

@@ -12,7 +12,7 @@ use std::alloc::Global;
 /// A store that was read: its box tree and the boxes of its manifests, and what these are read as.
 #[derive(Clone, Copy)]
 pub(crate) struct ReadStore<'s, 't, 'c> {
-    /// Its tree and boxes.
+    /// The tree and the boxes of the store.
     pub(crate) older: &'s OlderStore<'t>,
 
     /// What its manifests are read as.
@@ -25,7 +25,7 @@ pub(crate) struct Ours<'s, 't, 'c> {
     /// How the file is cleared of its store.
     pub(crate) clearing: Clearing,
 
-    /// Its store, where it has one.
+    /// The store of the media file, where it has one.
     pub(crate) store: Option<ReadStore<'s, 't, 'c>>,
 }
 
@@ -40,7 +40,7 @@ pub(crate) fn store_with<'s, 't, 'c>(
     ReadStore { older, chain }
 }
 
-// One flag more.
+// One flag more at the end of a list.
 fn push_flag(flags: &mut Vec<bool>, flag: bool) -> Result<(), NoMemory>
     ensures { OnOk result (flags.new.items ≡ flags.old.items ++ flag ∷ []) }
 {
@@ -48,7 +48,7 @@ fn push_flag(flags: &mut Vec<bool>, flag: bool) -> Result<(), NoMemory>
     Ok(())
 }
 
-/// Of each manifest of a store whether it is reached.
+/// One flag for each manifest of a store: whether it is reached.
 pub(crate) fn flags_of(alloc: Global, chain: &Chain<'_>) -> Result<Vec<bool>, NoMemory>
     requires { LabelsDiffer chain.now.readings }
     ensures { IfOk result (λ flags. AreFlags chain.now.readings flags.items) }

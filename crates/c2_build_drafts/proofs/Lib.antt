@@ -1,3 +1,2 @@
-pub mod Causes
 mod Placed
 mod NewStores

@@ -6,14 +6,14 @@ use Rattle.c2_spec.specs.Jpeg.Writing.{IsPacketStore}
 use Rattle.c2_spec.specs.Jumbf.Tree.{tree_bytes}
 use Rattle.c2_definition.specs.declared.types.Definition.{Definition}
 use Rattle.c2_definition.specs.declared.types.NewAssertion.{NewAssertion}
-use Rattle.c2_new_store_spec.specs.Built.{HasDigestLen, StoreSizeIsFixed}
-use Rattle.c2_new_store_spec.specs.Store.{Content, new_alg, new_claim, new_store}
+use Rattle.c2_new_file_spec.specs.Built.{HasDigestLen, StoreSizeIsFixed}
+use Rattle.c2_new_file_spec.specs.Store.{Content, new_alg, new_claim, new_store}
 use Rattle.c2_layout.specs.Parts.{AreParts, IsContent}
 use Rattle.c2_layout.specs.declared.carried.Carried.{Carried}
 use Rattle.c2_layout.specs.declared.parts.NewParts.{NewParts}
 use Rattle.c2_without_store.specs.Clears.{cleared}
 use Rattle.c2_without_store.specs.declared.clearing.Clearing.{Clearing}
-use Rattle.c2_new_bmff_spec.specs.Films.{BmffSizeIsFixed}
+use Rattle.c2_new_file_spec.specs.Films.{BmffSizeIsFixed}
 use Rattle.c2_new_file_spec.specs.Places.{IsPlace, Place, bound_text, place_binding, place_start, place_store, put_bytes}
 use Rattle.c2_build_refusals.specs.Refusals.{Ground}
 use Rattle.c2_build_refusals.specs.declared.types.Draft.{Draft}
@@ -27,7 +27,9 @@ use Rattle.c2_build_drafts.specs.Drafts.{IsOver, IsPutReady, draft_signed}
 
 -- a store was made of these parts
 abbrev pub IsMade : Definition → Carried → NewParts → List ℕ → List ℕ → Type 0
-IsMade d k parts message store = (h : List ℕ → List ℕ) (c : Content) (binding : NewAssertion) → IsContent h d k c → AreParts h c binding parts → store ≡ tree_bytes (new_store h c binding message)
+IsMade d k parts message store =
+    (h : List ℕ → List ℕ) (c : Content) (binding : NewAssertion) → IsContent h d k c → AreParts h c binding parts
+    → store ≡ tree_bytes (new_store h c binding message)
 
 -- ---- over known bytes
 
@@ -38,10 +40,14 @@ module _ (hash : List ℕ → List ℕ) (media : List ℕ) (d : Definition) (w :
   room_is = ap (λ (x : Definition). x.reserve) (sym over.ground.content.definition)
 
   -- the binding is that of the place, where so many bytes are reserved
-  binding_is : (reserve : ℕ) → reserve ≡ d.reserve → point_binding (new_alg d) w.point w.draft.start w.draft.length are.digest ≡ place_binding hash g.content reserve g.base p
+  binding_is : (reserve : ℕ) → reserve ≡ d.reserve
+      → point_binding (new_alg d) w.point w.draft.start w.draft.length are.digest ≡ place_binding hash g.content reserve g.base p
   binding_is reserve room =
-      let digest = are.is_digest (cleared w.ground.clearing media) is p (subst (λ (b : List ℕ). IsPlace b p) over.ground.base over.place) over.point in
-      same_binding hash g.content g.base (new_alg d) w.point w.draft p are.digest reserve (ap new_alg (sym over.ground.content.definition)) (room ∙ room_is) over.point over.numbers
+      let digest =
+      are.is_digest (cleared w.ground.clearing media) is p
+      (subst (λ (b : List ℕ). IsPlace b p) over.ground.base over.place) over.point in
+      same_binding hash g.content g.base (new_alg d) w.point w.draft p are.digest reserve
+      (ap new_alg (sym over.ground.content.definition)) (room ∙ room_is) over.point over.numbers
       (digest ∙ ap (λ (b : List ℕ). hash (bound_text b p)) (sym over.ground.base))
 
   -- the parts are those of the content
@@ -49,17 +55,24 @@ module _ (hash : List ℕ → List ℕ) (media : List ℕ) (d : Definition) (w :
   parts_are = are.parts g.content over.ground.content
 
   -- what is made over the claim is what is signed
-  pub signed_is : (claim tbs : List ℕ) → claim ≡ parts.claim → tbs ≡ deterministic (sig_structure d.protected claim) → tbs ≡ draft_signed hash d g p
+  pub signed_is : (claim tbs : List ℕ) → claim ≡ parts.claim → tbs ≡ deterministic (sig_structure d.protected claim)
+      → tbs ≡ draft_signed hash d g p
   signed_is claim tbs same made =
-      made ∙ ap (λ (x : List ℕ). deterministic (sig_structure d.protected x)) (same ∙ parts_are.claim ∙ ap (new_claim hash g.content) (binding_is d.reserve refl))
+      made
+      ∙ ap (λ (x : List ℕ). deterministic (sig_structure d.protected x))
+      (same ∙ parts_are.claim ∙ ap (new_claim hash g.content) (binding_is d.reserve refl))
 
   -- a store of these parts is ready to be put in
-  pub put_ready : (message : List ℕ) (r : Ready) → r.draft ≡ w.draft → r.clearing ≡ w.ground.clearing → length message ≡ d.reserve → IsMade d w.ground.carried parts message r.store → IsPutReady hash media g p message r
+  pub put_ready : (message : List ℕ) (r : Ready) → r.draft ≡ w.draft → r.clearing ≡ w.ground.clearing
+      → length message ≡ d.reserve → IsMade d w.ground.carried parts message r.store
+      → IsPutReady hash media g p message r
   put_ready message r draft clearing filled made =
       let store : r.store ≡ tree_bytes (place_store hash g.content message g.base p) =
-      made hash g.content (point_binding (new_alg d) w.point w.draft.start w.draft.length are.digest) over.ground.content parts_are
+      made hash g.content (point_binding (new_alg d) w.point w.draft.start w.draft.length are.digest)
+      over.ground.content parts_are
       ∙ ap (λ (b : NewAssertion). tree_bytes (new_store hash g.content b message)) (binding_is (length message) filled) in
-      let base : g.base ≡ cleared r.clearing media = over.ground.base ∙ ap (λ (x : Clearing). cleared x media) (sym clearing) in
+      let base : g.base ≡ cleared r.clearing media =
+      over.ground.base ∙ ap (λ (x : Clearing). cleared x media) (sym clearing) in
       let start : place_start p ≡ r.draft.start = sym over.numbers.start ∙ ap (λ (f : Draft). f.start) (sym draft) in
       let put : IsPut r.draft.put p = subst (λ (f : Draft). IsPut f.put p) (sym draft) over.numbers.put in
       record {
@@ -74,9 +87,13 @@ module _ (hash : List ℕ → List ℕ) (media : List ℕ) (d : Definition) (w :
 -- ---- over all bytes
 
 -- the store of what was drafted can go into packets
-pub draft_packs : StoreSizeIsFixed → BmffSizeIsFixed → (hash : List ℕ → List ℕ) (known : Option (List ℕ)) (len : ℕ) (d : Definition) (w : Drafted) (parts : NewParts) (message store : List ℕ) → HasDigestLen (new_alg d) hash
-    → AreNewParts hash known d w parts → length message ≡ d.reserve → IsSmall hash len d w → IsMade d w.ground.carried parts message store → IsPacketStore store
+pub draft_packs : StoreSizeIsFixed → BmffSizeIsFixed
+    → (hash : List ℕ → List ℕ) (known : Option (List ℕ)) (len : ℕ) (d : Definition) (w : Drafted) (parts : NewParts) (message store : List ℕ)
+    → HasDigestLen (new_alg d) hash
+    → AreNewParts hash known d w parts → length message ≡ d.reserve → IsSmall hash len d w
+    → IsMade d w.ground.carried parts message store → IsPacketStore store
 draft_packs law film hash known len d w parts message store digests are filled small made =
     let own : d ≡ small.content.definition = sym small.is.definition in
-    store_packs law film hash small.content (new_alg d) w.point w.draft.start w.draft.length are.digest message store (ap new_alg own) digests are.sized (filled ∙ ap (λ (x : Definition). x.reserve) own) small.small
+    store_packs law film hash small.content (new_alg d) w.point w.draft.start w.draft.length are.digest message store
+    (ap new_alg own) digests are.sized (filled ∙ ap (λ (x : Definition). x.reserve) own) small.small
     (made hash small.content (point_binding (new_alg d) w.point w.draft.start w.draft.length are.digest) small.is (are.parts small.content small.is))

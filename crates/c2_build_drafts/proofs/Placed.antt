@@ -22,19 +22,25 @@ module _ (hash : List ℕ → List ℕ) (media : List ℕ) (d : Definition) (k :
   place_is = subst (λ (b : List ℕ). IsPlace b at.0) (sym is.base) at.1
 
   -- the tests are those of the ground
-  same_tests : (o : Option BuildError) → first_refusal (number_tests size k.manifests g.content at.0) ≡ o → first_refusal (ground_tests g at.0) ≡ o
+  same_tests : (o : Option BuildError) → first_refusal (number_tests size k.manifests g.content at.0) ≡ o
+      → first_refusal (ground_tests g at.0) ≡ o
   same_tests o h =
       sym (ap (λ (n : ℕ). first_refusal (number_tests n k.manifests g.content at.0)) (long ∙ ap length (sym is.base))
       ∙ ap (λ (n : ℕ). first_refusal (number_tests (length g.base) n g.content at.0)) (sym is.manifests)) ∙ h
 
   -- none of them fails
-  pub place_passed : (f : Draft) → first_refusal (number_tests size k.manifests g.content at.0) ≡ None → IsDraft g.content s size f → IsDraftedOver hash media d (record { ground = k; point = s; draft = f }) g
+  pub place_passed : (f : Draft) → first_refusal (number_tests size k.manifests g.content at.0) ≡ None
+      → IsDraft g.content s size f → IsDraftedOver hash media d (record { ground = k; point = s; draft = f }) g
   place_passed f none draft = record {
     place = at.0;
-    over = record { ground = is; place = place_is; point = at.2; numbers = numbered g.content s size f g.base at.0 draft place_is at.2 };
+    over =
+        record
+        { ground = is; place = place_is; point = at.2; numbers = numbered g.content s size f g.base at.0 draft place_is at.2 };
     passed = same_tests None none;
   }
 
   -- one of them does
-  pub place_refused : (e : BuildError) → WithoutFault e (first_refusal (number_tests size k.manifests g.content at.0) ≡ Some e) → WithoutFault e (IsRefusedAt g e)
+  pub place_refused : (e : BuildError)
+      → WithoutFault e (first_refusal (number_tests size k.manifests g.content at.0) ≡ Some e)
+      → WithoutFault e (IsRefusedAt g e)
   place_refused e h = outside_map e (λ first. (at.0, place_is, same_tests (Some e) first)) h

@@ -1,5 +1,5 @@
 -- What is drafted of a new file whose store stands in its place, what is signed of it, and what of it is ready to be written.
-use Rattle.std.specs.Prelude.{◌≡◌, ℕ, true, List, length}
+use Rattle.std.specs.Prelude.{◌≡◌, ℕ, List, length}
 use Rattle.std.specs.declared.option.Option.{Option}
 use Rattle.std.specs.declared.option.Option.TheVariants.{Some, None}
 use Rattle.std.specs.Option.{ForSome}
@@ -7,19 +7,19 @@ use Rattle.c2_spec.specs.C2pa.Sign1.{sig_structure}
 use Rattle.c2_spec.specs.Cbor.Deterministic.{deterministic}
 use Rattle.c2_spec.specs.Jumbf.Tree.{tree_bytes}
 use Rattle.c2_spec.specs.declared.digest.Alg.{Alg}
+use Rattle.c2_container.specs.Contained.{IsWithin}
+use Rattle.c2_container.specs.declared.types.Contained.{Contained}
 use Rattle.c2_definition.specs.DefinitionFile.{IsWellFormed}
 use Rattle.c2_definition.specs.declared.types.Definition.{Definition}
-use Rattle.c2_new_store_spec.specs.Store.{new_alg, new_claim}
+use Rattle.c2_new_file_spec.specs.Store.{new_alg, new_claim}
 use Rattle.c2_without_store.specs.Clears.{cleared_len}
-use Rattle.c2_new_file_spec.specs.Places.{IsFreePlace, IsPlace, Place, place_binding, place_file, place_start, place_store, put_bytes}
-use Rattle.c2_build_refusals.specs.Kinds.{Effects, IsReadKind, kind_of, no_effects}
+use Rattle.c2_new_file_spec.specs.Places.{IsPlace, Place, place_binding, place_file, place_start, place_store, put_bytes}
 use Rattle.c2_build_refusals.specs.Refusals.{Ground, first_refusal, ground_tests, new_range_len}
-use Rattle.c2_build_refusals.specs.InsertPoints.{IsForm, IsInsertPoint}
+use Rattle.c2_build_refusals.specs.InsertPoints.{IsInsertPoint}
 use Rattle.c2_build_refusals.specs.declared.error.BuildError.{BuildError}
 use Rattle.c2_build_refusals.specs.declared.types.Drafted.{Drafted}
-use Rattle.c2_build_refusals.specs.declared.types.FileForm.{FileForm}
 use Rattle.c2_build_refusals.specs.declared.types.InsertPoint.{InsertPoint}
-use Rattle.c2_build_base.specs.Grounds.{IsGround}
+use Rattle.c2_build_base.specs.Grounds.{IsFoundIn, IsGround}
 use Rattle.c2_build_parts.specs.Bound.{IsSmall}
 use Rattle.c2_build_in_place.specs.Numbers.{HasLen, IsNumbered}
 use Rattle.c2_build_in_place.specs.Writings.{ready_file}
@@ -27,6 +27,11 @@ use Rattle.c2_build_in_place.specs.declared.writing.Ready.{Ready}
 use Rattle.c2_build_drafts.specs.declared.ready.DraftedBuild.{DraftedBuild}
 
 -- ---- what is drafted
+
+-- This was found of a media file, and lies in it.
+pub record IsOpenedIn (file : List ℕ) (c : Contained) : Type 0 where
+  pub found : IsFoundIn file c
+  pub within : IsWithin (length file) c
 
 -- What was drafted stands for this ground and this place, over this media file.
 pub record IsOver (hash : List ℕ → List ℕ) (media : List ℕ) (d : Definition) (w : Drafted) (g : Ground) (p : Place) : Type 0 where
@@ -45,21 +50,9 @@ pub record IsDraftedOver (hash : List ℕ → List ℕ) (media : List ℕ) (d : 
 abbrev pub IsRefusedAt : Ground → BuildError → Type 0
 IsRefusedAt g e = (p : Place) × IsPlace g.base p × (first_refusal (ground_tests g p) ≡ Some e)
 
--- Over such a ground the tests are made with the numbers of the new file: what is left of the media has this form and a free place, and 64
--- bits hold the length of the new store.
-pub record CanBeDrafted (form : FileForm) (g : Ground) : Type 0 where
-  pub has_form : IsForm g.base form
-  pub place : Place
-  pub free : IsFreePlace g.base place
-  pub len : (s : InsertPoint) → HasLen s g.content
-
--- what is done besides reading the media: an older store may be built over, or a JPEG file built into
-abbrev pub draft_effects : Effects
-draft_effects = record no_effects { takes_older = true }
-
--- the cause of an error of drafting
-abbrev pub IsDraftCause : ℕ → ℕ → BuildError → Type 0
-IsDraftCause before now e = IsReadKind draft_effects before now (kind_of e)
+-- 64 bits hold the length of the new store over a ground, wherever it goes
+abbrev pub HasEachLen : Ground → Type 0
+HasEachLen g = (s : InsertPoint) → HasLen s g.content
 
 -- ---- what is signed
 
@@ -93,7 +86,7 @@ pub record IsPutReady (hash : List ℕ → List ℕ) (media : List ℕ) (g : Gro
   pub len : new_range_len p g.content ≡ r.draft.length
   pub filled : length message ≡ g.content.definition.reserve
 
--- so it is over whatever was drafted so, where the bytes of the media are known
+-- what is ready is the new file over whatever was drafted so, where the bytes of the media are known
 abbrev pub IsReadyOf : (Alg → List ℕ → List ℕ) → Option (List ℕ) → DraftedBuild → Ready → Type 0
 IsReadyOf hash known b r =
     ForSome known (λ media. (g : Ground) (p : Place) → IsOver (hash (new_alg b.definition)) media b.definition b.drafted g p

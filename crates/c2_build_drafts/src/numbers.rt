@@ -2,7 +2,7 @@
 ghost use Rattle.std.specs.Prelude.{◌≡◌, ◌<◌, ◌≤◌, IfErr, IfOk, List, None, OnOk, Some, ℕ};
 ghost use Rattle.c2_base.specs.declared.limits.TheConstants as limits;
 ghost use Rattle.c2_spec.specs.declared.packets.TheConstants.{LEAST_STORE_LEN};
-ghost use Rattle.c2_new_store_spec.specs.Store.{Content};
+ghost use Rattle.c2_new_file_spec.specs.Store.{Content};
 ghost use Rattle.c2_layout.specs.Parts.{IsContent};
 ghost use Rattle.c2_new_file_spec.specs.Places.{IsPlace, Place};
 ghost use Rattle.c2_build_refusals.specs.Kinds.{IsOlderQuiet, WithoutFault};
@@ -49,7 +49,8 @@ pub(crate) fn numbers_of(
     ensures refused { IfErr result (λ e. (hash : List ℕ → List ℕ) (c : Content) (base : List ℕ)
         (p : Place) → IsContent hash definition.now ground.now.carried c
         → HasLen point.now.point c → IsPlace base p → IsInsertPoint point.now.point p
-        → WithoutFault e (first_refusal (number_tests point.now.size ground.now.manifests c p) ≡ Some e)) }
+        → WithoutFault e
+        (first_refusal (number_tests point.now.size ground.now.manifests c p) ≡ Some e)) }
     ensures draft { IfOk result (λ f. (hash : List ℕ → List ℕ) (c : Content)
         → IsContent hash definition.now ground.now.carried c
         → IsDraft c point.now.point point.now.size f) }

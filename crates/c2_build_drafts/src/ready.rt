@@ -13,8 +13,6 @@ use c2_build_refusals::{BuildError, Drafted};
 use c2_definition::Definition;
 use c2_hash::Hashing;
 use c2_layout::new_store;
-use c2_new_bmff_spec::a_new_bmff_store_has_one_length;
-use c2_new_store_spec::a_new_store_has_one_length;
 use std::alloc::Global;
 
 /// What is to be built, with a message: all that a new file is made of besides the media. Nothing of it is borrowed of what was opened.
@@ -44,9 +42,6 @@ pub fn make_ready<A: Source, H: Hashing>(
     ensures can_write { IfOk result (CanWrite (A.len media.old)) }
     ensures reads { ReadsSource A.len A.known A.faults IsReadCause media.old media.new result }
 {
-    // Only the prover needs these laws.
-    a_new_store_has_one_length();
-    a_new_bmff_store_has_one_length();
     let definition = &build.definition;
     let drafted = &build.drafted;
     let Ok(mut buffer) = vec![in alloc; 0u8; PIECE_LEN] else {

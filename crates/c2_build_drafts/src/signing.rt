@@ -1,7 +1,7 @@
 // What is to be signed of what was drafted.
 ghost use Rattle.std.specs.Prelude.{IfErr, IfOk};
 ghost use Rattle.c2_base.specs.Source.{ReadsSource};
-ghost use Rattle.c2_new_store_spec.specs.Store.{new_alg};
+ghost use Rattle.c2_new_file_spec.specs.Store.{new_alg};
 ghost use Rattle.c2_without_store.specs.Clears.{cleared_len};
 ghost use Rattle.c2_definition.specs.DefinitionFile.{IsWellFormed};
 ghost use Rattle.c2_build_refusals.specs.Kinds.{IsReadCause, SaysNothing};

@@ -1,9 +1,10 @@
-mod Told
+mod Causes
+mod Drafts
+mod Ended
+mod Films
 mod First
 mod Rows
-mod Stages
-mod Drafts
-mod Causes
 mod Sized
-mod Films
-mod Ended
+mod Stages
+pub mod TheLaws
+mod Told

@@ -27,19 +27,23 @@ use Rattle.c2_build_front.specs.Steps.{IsFirstError, IsRefusedOver}
 -- ---- the media
 
 -- a media file that isn't refused is opened as what it is
-pub opened_as : (media : List ℕ) (kind : MediaKind) → (s : IsMediaStage media (Ok kind)) → front.IsMediaStage media (Ok s.0)
+pub opened_as : (media : List ℕ) (kind : MediaKind) → (s : IsMediaStage media (Ok kind))
+    → front.IsMediaStage media (Ok s.0)
 opened_as media kind s = by s.0 s.1 s.2
   where
-    by : (what : Opening Tree) → IsOpened media what → ◌≡◌ {A = Result MediaKind BuildError} (Ok kind) (media_stage what) → front.IsMediaStage media (Ok what)
+    by : (what : Opening Tree) → IsOpened media what
+        → ◌≡◌ {A = Result MediaKind BuildError} (Ok kind) (media_stage what) → front.IsMediaStage media (Ok what)
     by (refused reason number) o e = absurd (cc (e))
     by absent o e = (absent, o, refl)
     by (here start len t) o e = (here start len t, o, refl)
 
 -- one that is refused is refused with its error
-pub media_error : (media : List ℕ) (e : BuildError) → IsMediaStage media (Err e) → IsRefusedWith (front.IsMediaStage media) e
+pub media_error : (media : List ℕ) (e : BuildError) → IsMediaStage media (Err e)
+    → IsRefusedWith (front.IsMediaStage media) e
 media_error media e s = by s.0 s.1 s.2
   where
-    by : (what : Opening Tree) → IsOpened media what → ◌≡◌ {A = Result MediaKind BuildError} (Err e) (media_stage what) → IsRefusedWith (front.IsMediaStage media) e
+    by : (what : Opening Tree) → IsOpened media what → ◌≡◌ {A = Result MediaKind BuildError} (Err e) (media_stage what)
+        → IsRefusedWith (front.IsMediaStage media) e
     by (refused reason number) o same = (media_refused reason number, (refused reason number, o, refl), cc (same))
     by absent o same = absurd (cc (same))
     by (here start len t) o same = absurd (cc (same))
@@ -50,57 +54,79 @@ media_error media e s = by s.0 s.1 s.2
 pub defined_as : (file : List ℕ) (d : Definition) → IsDefinitionStage file (Ok d) → front.IsDefinitionStage file (Ok d)
 defined_as file d s = by s.0 s.1 s.2
   where
-    by : (r : Result Definition DefinitionField) → IsDefinition file r → ◌≡◌ {A = Result Definition BuildError} (Ok d) (definition_stage r) → front.IsDefinitionStage file (Ok d)
+    by : (r : Result Definition DefinitionField) → IsDefinition file r
+        → ◌≡◌ {A = Result Definition BuildError} (Ok d) (definition_stage r) → front.IsDefinitionStage file (Ok d)
     by (Ok x) is e = (Ok x, is, cc (e))
     by (Err field) is e = absurd (cc (e))
 
--- and one that is refused is refused with its error
-pub definition_error : (file : List ℕ) (e : BuildError) → IsDefinitionStage file (Err e) → IsRefusedWith (front.IsDefinitionStage file) e
+-- a definition file that is refused is refused with its error
+pub definition_error : (file : List ℕ) (e : BuildError) → IsDefinitionStage file (Err e)
+    → IsRefusedWith (front.IsDefinitionStage file) e
 definition_error file e s = by s.0 s.1 s.2
   where
-    by : (r : Result Definition DefinitionField) → IsDefinition file r → ◌≡◌ {A = Result Definition BuildError} (Err e) (definition_stage r) → IsRefusedWith (front.IsDefinitionStage file) e
+    by : (r : Result Definition DefinitionField) → IsDefinition file r
+        → ◌≡◌ {A = Result Definition BuildError} (Err e) (definition_stage r)
+        → IsRefusedWith (front.IsDefinitionStage file) e
     by (Ok x) is same = absurd (cc (same))
     by (Err field) is same = (bad_definition field, (Err field, is, refl), cc (same))
 
 -- a message is one
-pub message_as : (protected bytes : List ℕ) (p : SignParts) → IsMessageStage protected bytes (Ok p) → front.IsMessageStage protected bytes (Ok p)
+pub message_as : (protected bytes : List ℕ) (p : SignParts) → IsMessageStage protected bytes (Ok p)
+    → front.IsMessageStage protected bytes (Ok p)
 message_as protected bytes p s = by s.0 s.1 s.2
   where
-    by : (r : Result SignParts SignaturePart) → IsMessageRead protected bytes r → ◌≡◌ {A = Result SignParts BuildError} (Ok p) (message_stage r) → front.IsMessageStage protected bytes (Ok p)
+    by : (r : Result SignParts SignaturePart) → IsMessageRead protected bytes r
+        → ◌≡◌ {A = Result SignParts BuildError} (Ok p) (message_stage r) → front.IsMessageStage protected bytes (Ok p)
     by (Ok x) is e = (Ok x, is, cc (e))
     by (Err test) is e = absurd (cc (e))
 
--- and one that is refused is refused with its error
-pub message_error : (protected bytes : List ℕ) (e : BuildError) → IsMessageStage protected bytes (Err e) → IsRefusedWith (front.IsMessageStage protected bytes) e
+-- a message that is refused is refused with its error
+pub message_error : (protected bytes : List ℕ) (e : BuildError) → IsMessageStage protected bytes (Err e)
+    → IsRefusedWith (front.IsMessageStage protected bytes) e
 message_error protected bytes e s = by s.0 s.1 s.2
   where
-    by : (r : Result SignParts SignaturePart) → IsMessageRead protected bytes r → ◌≡◌ {A = Result SignParts BuildError} (Err e) (message_stage r) → IsRefusedWith (front.IsMessageStage protected bytes) e
+    by : (r : Result SignParts SignaturePart) → IsMessageRead protected bytes r
+        → ◌≡◌ {A = Result SignParts BuildError} (Err e) (message_stage r)
+        → IsRefusedWith (front.IsMessageStage protected bytes) e
     by (Ok x) is same = absurd (cc (same))
     by (Err test) is same = (bad_signature test, (Err test, is, refl), cc (same))
 
 -- ---- one stage after the other
 
 -- a stage that refuses
-pub refused_first : {A B : Type 0} (First : Result A FrontRefusal → Type 0) (Next : A → Result B FrontRefusal → Type 0) (e : BuildError) → IsRefusedWith First e → IsRefusedWith (Then First Next) e
+pub refused_first :
+    {A B : Type 0} (First : Result A FrontRefusal → Type 0) (Next : A → Result B FrontRefusal → Type 0) (e : BuildError)
+    → IsRefusedWith First e → IsRefusedWith (Then First Next) e
 refused_first First Next e h = (h.0, record { first = Err h.0; is_first = h.1; next = refl }, h.2)
 
 -- what is refused behind a stage that passed
-pub refused_next : {A B : Type 0} (First : Result A FrontRefusal → Type 0) (Next : A → Result B FrontRefusal → Type 0) (a : A) (e : BuildError) → First (Ok a) → IsRefusedWith (Next a) e → IsRefusedWith (Then First Next) e
+pub refused_next :
+    {A B : Type 0} (First : Result A FrontRefusal → Type 0) (Next : A → Result B FrontRefusal → Type 0) (a : A)
+    (e : BuildError)
+    → First (Ok a) → IsRefusedWith (Next a) e → IsRefusedWith (Then First Next) e
 refused_next First Next a e first h = (h.0, record { first = Ok a; is_first = first; next = h.1 }, h.2)
 
 -- an answer behind a stage that passed
-pub answer_next : {A B : Type 0} (First : Result A FrontRefusal → Type 0) (Next : A → Result B FrontRefusal → Type 0) (a : A) (r : Result B BuildError) → First (Ok a) → IsAnswerTo (Next a) r → IsAnswerTo (Then First Next) r
+pub answer_next :
+    {A B : Type 0} (First : Result A FrontRefusal → Type 0) (Next : A → Result B FrontRefusal → Type 0) (a : A)
+    (r : Result B BuildError)
+    → First (Ok a) → IsAnswerTo (Next a) r → IsAnswerTo (Then First Next) r
 answer_next First Next a (Ok b) first h = record { first = Ok a; is_first = first; next = h }
 answer_next First Next a (Err e) first h = outside_map e (refused_next First Next a e first) h
 
 -- ---- the film
 
 -- the first of a list is what refuses
-pub unless_first : {A : Type 0} (es : List FrontRefusal) (Next : Result A FrontRefusal → Type 0) (refusal : FrontRefusal) (others : List FrontRefusal) → es ≡ refusal ∷ others → Unless es Next (Err refusal)
-unless_first {A} es Next refusal others is = subst (λ (xs : List FrontRefusal). Unless {A = A} xs Next (Err refusal)) (sym is) refl
+pub unless_first :
+    {A : Type 0} (es : List FrontRefusal) (Next : Result A FrontRefusal → Type 0) (refusal : FrontRefusal)
+    (others : List FrontRefusal)
+    → es ≡ refusal ∷ others → Unless es Next (Err refusal)
+unless_first {A} es Next refusal others is =
+    subst (λ (xs : List FrontRefusal). Unless {A = A} xs Next (Err refusal)) (sym is) refl
 
 -- a JPEG file is no BMFF file
-pub jpeg_first : (media : List ℕ) (what : Opening Tree) → begins_jpeg media ≡ true → IsFirstError (bmff_refusals media what) build.NotBmff
+pub jpeg_first : (media : List ℕ) (what : Opening Tree) → begins_jpeg media ≡ true
+    → IsFirstError (bmff_refusals media what) build.NotBmff
 jpeg_first media what jpeg =
     let none : is_bmff media ≡ false = ap (λ (b : Bool). not b && begins_bmff media) jpeg in
     (not_bmff, store_refusals what, ap (λ (b : Bool). cond b [] (not_bmff ∷ []) ++ store_refusals what) none, refl)
@@ -110,13 +136,18 @@ bmff_form : (media : List ℕ) → is_bmff media ≡ true → cond (is_bmff medi
 bmff_form media film = ap (λ (b : Bool). cond b [] (not_bmff ∷ [])) film
 
 -- one with a store has it already
-pub store_first : (media : List ℕ) (what : Opening Tree) (start len : ℕ) (t : Tree) → is_bmff media ≡ true → ◌≡◌ {A = Result MediaKind BuildError} (Ok (stored start len t)) (media_stage what) → IsFirstError (bmff_refusals media what) build.HasStore
+pub store_first : (media : List ℕ) (what : Opening Tree) (start len : ℕ) (t : Tree) → is_bmff media ≡ true
+    → ◌≡◌ {A = Result MediaKind BuildError} (Ok (stored start len t)) (media_stage what)
+    → IsFirstError (bmff_refusals media what) build.HasStore
 store_first media (refused reason number) start len t film e = absurd (cc (e))
 store_first media absent start len t film e = absurd (cc (e))
-store_first media (here at n old) start len t film e = first_behind (cond (is_bmff media) [] (not_bmff ∷ [])) (has_store ∷ []) build.HasStore (bmff_form media film) (has_store, [], refl, refl)
+store_first media (here at n old) start len t film e =
+    first_behind (cond (is_bmff media) [] (not_bmff ∷ [])) (has_store ∷ []) build.HasStore (bmff_form media film)
+    (has_store, [], refl, refl)
 
--- of one without a store nothing is refused
-pub bmff_passes : (media : List ℕ) (what : Opening Tree) → is_bmff media ≡ true → ◌≡◌ {A = Result MediaKind BuildError} (Ok fresh) (media_stage what) → bmff_refusals media what ≡ []
+-- nothing is refused of a BMFF file without a store
+pub bmff_passes : (media : List ℕ) (what : Opening Tree) → is_bmff media ≡ true
+    → ◌≡◌ {A = Result MediaKind BuildError} (Ok fresh) (media_stage what) → bmff_refusals media what ≡ []
 bmff_passes media (refused reason number) film e = absurd (cc (e))
 bmff_passes media absent film e = ap (λ (xs : List FrontRefusal). xs ++ []) (bmff_form media film)
 bmff_passes media (here at n old) film e = absurd (cc (e))
@@ -126,16 +157,26 @@ pub refused_over : {A : Type 0} (media : List ℕ) (what : Opening Tree) (d : De
     → ((roots : List Box) (refusal : FrontRefusal) (others : List FrontRefusal) → plan_refusals media roots d ≡ refusal ∷ others → Next roots (Err refusal))
     → IsRefusedOver media what d e → IsRefusedWith (Then (IsBmffStage media what) Next) e
 refused_over {A} media what d e Next plan (inl h) =
-    refused_first (IsBmffStage media what) Next e (h.0, unless_first (bmff_refusals media what) (λ r. (roots : List Box) × HasRoots media roots × (r ≡ Ok roots)) h.0 h.1 h.2, h.3)
+    refused_first (IsBmffStage media what) Next e
+    (h.0, unless_first (bmff_refusals media what) (λ r. (roots : List Box) × HasRoots media roots × (r ≡ Ok roots)) h.0 h.1 h.2, h.3)
 refused_over {A} media what d e Next plan (inr h) =
-    refused_next (IsBmffStage media what) Next h.0 e (unless_passes (bmff_refusals media what) (λ r. (roots : List Box) × HasRoots media roots × (r ≡ Ok roots)) (Ok h.0) h.2 (h.0, h.1, refl))
+    refused_next (IsBmffStage media what) Next h.0 e
+    (unless_passes (bmff_refusals media what) (λ r. (roots : List Box) × HasRoots media roots × (r ≡ Ok roots)) (Ok h.0) h.2 (h.0, h.1, refl))
     (h.3.0, plan h.0 h.3.0 h.3.1 h.3.2, h.3.3)
 
 -- a plan refuses it
-pub planned_refuses : (hash : Alg → List ℕ → List ℕ) (media : List ℕ) (d : Definition) (roots : List Box) (refusal : FrontRefusal) (others : List FrontRefusal) → plan_refusals media roots d ≡ refusal ∷ others → IsPlannedIn hash media d roots (Err refusal)
-planned_refuses hash media d roots refusal others is = unless_first (plan_refusals media roots d) (λ r. r ≡ Ok (front_signed hash media roots d)) refusal others is
+pub planned_refuses :
+    (hash : Alg → List ℕ → List ℕ) (media : List ℕ) (d : Definition) (roots : List Box) (refusal : FrontRefusal)
+    (others : List FrontRefusal)
+    → plan_refusals media roots d ≡ refusal ∷ others → IsPlannedIn hash media d roots (Err refusal)
+planned_refuses hash media d roots refusal others is =
+    unless_first (plan_refusals media roots d) (λ r. r ≡ Ok (front_signed hash media roots d)) refusal others is
 
--- and so does a build
-pub made_refuses : (hash : Alg → List ℕ → List ℕ) (media : List ℕ) (d : Definition) (parts : SignParts) (roots : List Box) (refusal : FrontRefusal) (others : List FrontRefusal) → plan_refusals media roots d ≡ refusal ∷ others → IsMadeIn hash media d parts roots (Err refusal)
+-- a build refuses a media file of which a plan is refused
+pub made_refuses :
+    (hash : Alg → List ℕ → List ℕ) (media : List ℕ) (d : Definition) (parts : SignParts) (roots : List Box)
+    (refusal : FrontRefusal) (others : List FrontRefusal)
+    → plan_refusals media roots d ≡ refusal ∷ others → IsMadeIn hash media d parts roots (Err refusal)
 made_refuses hash media d parts roots refusal others is =
-    unless_first (plan_refusals media roots d ++ reserve_refusals d parts) (IsNewFile hash media d parts roots) refusal (others ++ reserve_refusals d parts) (ap (λ (xs : List FrontRefusal). xs ++ reserve_refusals d parts) is)
+    unless_first (plan_refusals media roots d ++ reserve_refusals d parts) (IsNewFile hash media d parts roots) refusal
+    (others ++ reserve_refusals d parts) (ap (λ (xs : List FrontRefusal). xs ++ reserve_refusals d parts) is)

@@ -23,7 +23,7 @@ refusal_of (build.Overflow at) = Some (overflow at)
 refusal_of (build.ReserveTooSmall needed) = Some (reserve_too_small needed)
 refusal_of e = None
 
--- it is the one that the error was made of
+-- the refusal of an error is the one that the error was made of
 told : (a : FrontRefusal) → refusal_of (error_of a) ≡ Some a
 unfolding refusal_of
 told (media_refused reason number) = refl
@@ -48,7 +48,7 @@ same_some a b e = cc (e)
 pub tells : ErrorsTellRefusals
 tells a b e = same_some a b (sym (told a) ∙ ap refusal_of e ∙ told b)
 
--- and says something of the inputs
+-- an error of a refusal says something of the inputs
 pub no_faults : ErrorsAreNoFaults
 no_faults (media_refused reason number) h = h
 no_faults (bad_definition field) h = h

@@ -69,10 +69,10 @@ Writes Is bytes = (r : Result NewFile FrontRefusal) × Is r × (bytes ≡ file_o
 -- the new file that is answered meets this: it is the media with its chunk offsets moved and the new store right after its first root box, each
 -- rule but that on the verdict holds of it, its one question is over the bytes that `plan_front` gives, and each chunk offset of the media from the
 -- store's place on tells where the same byte is
-abbrev pub IsMet : (Alg → List ℕ → List ℕ) → List ℕ → List ℕ → List ℕ → Result Embedded BuildError → Type 0
-IsMet hash media definition message (Ok e) =
+abbrev pub IsFrontMet : (Alg → List ℕ → List ℕ) → List ℕ → List ℕ → List ℕ → Result Embedded BuildError → Type 0
+IsFrontMet hash media definition message (Ok e) =
     (b : NewFile) → IsFrontMade hash media definition message (Ok b) → FrontMeets hash media definition message b
-IsMet hash media definition message (Err e) = ⊤
+IsFrontMet hash media definition message (Err e) = ⊤
 
 -- What `embed_front` does over known inputs, of a sink before and after: it answers what they come to; it writes the new file, a prefix of it where
 -- a source or the sink fails, and nothing where they are refused; within a stated spare that holds this the sink doesn't fail; and the new file
@@ -81,4 +81,4 @@ pub record EmbedsFront {K : Type 0} (written : K → Option (List ℕ)) (spare :
     (hash : Alg → List ℕ → List ℕ) (media definition message : List ℕ) (old new : K) (result : Result Embedded BuildError) : Type 0 where
   pub answered : IsRangeOf (IsFrontMade hash media definition message) result
   pub wrote : WritesFile written spare finished (Writes (IsFrontMade hash media definition message)) old new (build_ending result)
-  pub meets : IsMet hash media definition message result
+  pub meets : IsFrontMet hash media definition message result

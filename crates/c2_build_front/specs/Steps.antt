@@ -15,11 +15,11 @@ use Rattle.c2_spec.specs.declared.digest.Alg.{Alg}
 use Rattle.c2_bmff_chunks.specs.declared.table.ShiftError.{ShiftError}
 use Rattle.c2_bmff_chunks.specs.declared.table.ShiftError.TheVariants as shift
 use Rattle.c2_definition.specs.declared.types.Definition.{Definition}
-use Rattle.c2_new_store_spec.specs.Fresh.{fresh_content}
-use Rattle.c2_new_store_spec.specs.Store.{new_alg}
+use Rattle.c2_new_file_spec.specs.Fresh.{fresh_content}
+use Rattle.c2_new_file_spec.specs.Store.{new_alg}
 use Rattle.c2_layout.specs.Parts.{AreParts}
 use Rattle.c2_layout.specs.declared.parts.NewParts.{NewParts}
-use Rattle.c2_new_bmff_spec.specs.Films.{new_bmff_binding, bmff_len, bmff_store_size}
+use Rattle.c2_new_file_spec.specs.Films.{new_bmff_binding, bmff_len, bmff_store_size}
 use Rattle.c2_bmff_binding_front.specs.Putting.{FitsIn, range_of, with_store}
 use Rattle.c2_bmff_binding_front.specs.declared.front.Front.{Front}
 use Rattle.c2_new_front_spec.specs.Fronts.{front_covered, tables_of}
@@ -45,7 +45,7 @@ IsFirstError refusals e = (refusal : FrontRefusal) × (others : List FrontRefusa
 abbrev pub IsPlanStep : ℕ → ℕ → BuildError → Type 0
 IsPlanStep before now e = IsReadKind plan_effects before now (kind_of e)
 
--- of a step that reads the media before a new file is written
+-- the cause of an error of a step that reads the media before a new file is written
 abbrev pub IsPrepareStep : ℕ → ℕ → BuildError → Type 0
 IsPrepareStep before now e = IsReadKind prepare_effects before now (kind_of e)
 
@@ -86,7 +86,8 @@ pub record IsDrafted (media : List ℕ) (roots : List Box) (d : Definition) (f :
   pub store : f.store_len ≡ store_size d
   pub tables : f.tables ≡ tables_of media roots
 
--- The same of a media file that is opened so: it is a BMFF file without a store.
+-- What is to be built in front of a media file that is opened so: it is a BMFF file without a store, nothing is refused of a plan over its
+-- root boxes, and these are the numbers of the new file.
 pub record IsDraftedOver (media : List ℕ) (what : Opening Tree) (d : Definition) (f : Front) : Type 0 where
   pub roots : List Box
   pub has_roots : HasRoots media roots

@@ -3,7 +3,7 @@ ghost use Rattle.std.specs.Prelude.{◌≡◌, ℕ, ◌+◌, ◌<◌, ◌≤◌,
 ghost use Rattle.std.specs.Option.{ForSome, option_to_list};
 ghost use Rattle.c2_base.specs.Source.{ReadsSource};
 ghost use Rattle.c2_bmff_rows.specs.Rows.{IsBoxWithin, rows_of};
-ghost use Rattle.c2_parent_spec.specs.Refusing.{redaction_refusal};
+ghost use Rattle.c2_new_file_spec.specs.Refusing.{redaction_refusal};
 ghost use Rattle.c2_definition.specs.DefinitionFile.{IsWellFormed};
 ghost use Rattle.c2_bmff_binding_front.specs.Putting.{FitsIn};
 ghost use Rattle.c2_new_front_spec.specs.InFront.{front_place, open_first};
@@ -21,7 +21,6 @@ use c2_bmff_boxes::types::Roots;
 use c2_build_base::MediaRead;
 use c2_build_refusals::BuildError;
 use c2_definition::Definition;
-use c2_new_front_spec::a_front_is_refused_or_planned;
 use c2_parent::refused_without_store;
 use c2_shift::{ShiftError, check_shift, tables};
 use c2_validate::Container;
@@ -186,9 +185,7 @@ pub(crate) fn drafted<A: Source>(
     ensures store { IfOk result (λ f. f.store_len ≡ store_size definition.now) }
     ensures reads { ReadsSource A.len A.known A.faults IsPlanStep media.old media.new result }
 {
-    // Only the prover needs this law.
-    a_front_is_refused_or_planned();
-    let Container::Bmff(roots) = file.container else {
+    let Container::Bmff(roots) = &file.contained.container else {
         return Err(BuildError::NotBmff);
     };
     if file.older.is_some() {

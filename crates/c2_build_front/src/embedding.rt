@@ -1,10 +1,8 @@
 // Writing a new file whose store stands in front.
-ghost use Rattle.std.specs.Prelude.{◌⊎◌, ℕ, List};
+ghost use Rattle.std.specs.Prelude.{ℕ, List};
 ghost use Rattle.std.specs.Option.{ForSome};
-ghost use Rattle.c2_base.specs.Causes.{Rose};
-ghost use Rattle.c2_base.specs.Sink.{WritesSink, unsaid};
-ghost use Rattle.c2_base.specs.Source.{ReadsSource};
-ghost use Rattle.c2_build_refusals.specs.Sinks.{EndsOut, IsOutCause};
+ghost use Rattle.c2_build_endings.specs.Endings.{WritesOut};
+ghost use Rattle.c2_build_endings.specs.Sources.{ReadsSigned, use_of};
 ghost use Rattle.c2_build_refusals.specs.Stages.{IsDefinitionTold, IsMessageTold, LeavesUndue};
 ghost use Rattle.c2_build_front.specs.Answers.{EmbedsFront, IsEmbedCause};
 
@@ -16,8 +14,6 @@ use c2_build_refusals::{BuildError, Embedded};
 use c2_build_writing::copy_fault;
 use c2_definition::each_definition_is_read_one_way;
 use c2_hash::Hashing;
-use c2_new_front_spec::{a_front_comes_to_one_thing, a_made_front_meets_the_rules};
-use c2_validate::one_opening;
 use std::alloc::Global;
 
 /// Writes the new file: a BMFF file with a new store, of a definition and of a signed message, right after its file type box, where each
@@ -49,26 +45,13 @@ pub fn embed_front<A: Source, B: Source, C: Source, K: Sink, H: Hashing>(
         definition.old definition.new signature.old signature.new }
 
     // These hold of every source.
-    ensures media { ReadsSource A.len A.known A.faults (IsEmbedCause
-        (Rose (B.faults definition.old) (B.faults definition.new)
-        ⊎ Rose (C.faults signature.old) (C.faults signature.new)))
-        media.old media.new result }
-    ensures definition { ReadsSource B.len B.known B.faults (IsEmbedCause
-        (Rose (A.faults media.old) (A.faults media.new)
-        ⊎ Rose (C.faults signature.old) (C.faults signature.new)))
-        definition.old definition.new result }
-    ensures message { ReadsSource C.len C.known C.faults (IsEmbedCause
-        (Rose (A.faults media.old) (A.faults media.new)
-        ⊎ Rose (B.faults definition.old) (B.faults definition.new)))
-        signature.old signature.new result }
-    ensures writes { WritesSink K.written unsaid K.faults IsOutCause out.old out.new result }
-    ensures ends { EndsOut K.finished out.old out.new result }
+    ensures sources { ReadsSigned IsEmbedCause
+        (use_of A.len A.known A.faults media.old media.new)
+        (use_of B.len B.known B.faults definition.old definition.new)
+        (use_of C.len C.known C.faults signature.old signature.new) result }
+    ensures sink { WritesOut K.written K.faults K.finished out.old out.new result }
 {
-    // Only the prover needs these laws.
-    a_front_comes_to_one_thing();
-    a_made_front_meets_the_rules();
     each_definition_is_read_one_way();
-    one_opening();
     let mut ready = match prepare(alloc, hashing, media, definition, signature) {
         Ok(ready) => ready,
         Err(error) => return Err(error),

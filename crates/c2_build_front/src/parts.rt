@@ -3,10 +3,10 @@ ghost use Rattle.std.specs.Prelude.{◌≡◌, ◌<◌, ◌≤◌, IfErr, IfOk, 
 ghost use Rattle.std.specs.Option.{ForSome};
 ghost use Rattle.c2_base.specs.Source.{ReadsSource};
 ghost use Rattle.c2_base.specs.declared.limits.TheConstants.{MAX_STORE_LEN};
-ghost use Rattle.c2_new_store_spec.specs.Fresh.{fresh_content};
-ghost use Rattle.c2_new_store_spec.specs.Store.{new_alg};
+ghost use Rattle.c2_new_file_spec.specs.Fresh.{fresh_content};
+ghost use Rattle.c2_new_file_spec.specs.Store.{new_alg};
 ghost use Rattle.c2_definition.specs.DefinitionFile.{IsWellFormed};
-ghost use Rattle.c2_new_bmff_spec.specs.Films as films;
+ghost use Rattle.c2_new_file_spec.specs.Films as films;
 ghost use Rattle.c2_bmff_binding_front.specs.Putting.{FitsIn};
 ghost use Rattle.c2_layout.specs.Parts.{AreParts, parts_size};
 ghost use Rattle.c2_build_refusals.specs.Kinds.{SaysNothing};
@@ -22,8 +22,6 @@ use c2_build_refusals::{BuildError, media_error};
 use c2_definition::Definition;
 use c2_hash::{Digest, Hashing};
 use c2_layout::{Carried, NewParts, bound_parts};
-use c2_new_bmff_spec::a_new_bmff_store_has_one_length;
-use c2_new_front_spec::the_covered_text_is_known_first;
 use std::alloc::Global;
 
 // The parts of the new manifest of a definition, whose store isn't too large, with this digest of what its binding binds.
@@ -42,8 +40,6 @@ fn parts_with<H: Hashing>(
     ensures size { IfOk result (λ p. parts_size definition.now.label p definition.now.reserve
         ≡ store_size definition.now) }
 {
-    // Only the prover needs this law.
-    a_new_bmff_store_has_one_length();
     let binding = new_bmff_binding(alloc, definition.alg, digest.as_slice())?;
     let nothing = Carried::nothing(alloc);
     bound_parts(alloc, hashing, definition, &nothing, &binding)
@@ -72,8 +68,6 @@ pub(crate) fn parts_over<A: Source, H: Hashing>(
         → SaysNothing e)) }
     ensures reads { ReadsSource A.len A.known A.faults IsPlanStep media.old media.new result }
 {
-    // Only the prover needs this law.
-    the_covered_text_is_known_first();
     // Matched and not handed up by `?`, here and below: each way out has clauses of its own.
     let digest = match front_digest(alloc, hashing, definition.alg, media, front, buf) {
         Ok(digest) => digest,

@@ -1,9 +1,9 @@
 // What is to be signed of a new manifest whose store stands in front.
 ghost use Rattle.std.specs.Prelude.{◌≡◌, ℕ, List};
 ghost use Rattle.std.specs.Option.{ForSome};
-ghost use Rattle.c2_base.specs.Causes.{Rose};
 ghost use Rattle.c2_base.specs.Source.{ReadsSource};
-ghost use Rattle.c2_container.specs.Contained.{HasRootsInside};
+ghost use Rattle.c2_container.specs.Contained.{IsWithin};
+ghost use Rattle.c2_build_endings.specs.Sources.{ReadsPlanned, use_of};
 ghost use Rattle.c2_definition.specs.DefinitionFile.{IsWellFormed};
 ghost use Rattle.c2_new_front_spec.specs.Outcomes.{IsBmffStage, IsFrontPlanned, IsPlannedIn, Then};
 ghost use Rattle.c2_build_base.specs.Grounds.{IsFoundIn, IsKind, IsReadIn};
@@ -16,11 +16,11 @@ use crate::drafting::drafted;
 use crate::parts::parts_over;
 use c2_base::limits::PIECE_LEN;
 use c2_base::{Blob, NoMemory, Source};
-use c2_build_base::{MediaFile, MediaRead, open_media, read_media};
+use c2_build_base::{MediaRead, open_media, read_media};
 use c2_build_refusals::{BuildError, read_definition_file, signed_over};
+use c2_container::Contained;
 use c2_definition::{Definition, each_definition_is_read_one_way};
 use c2_hash::Hashing;
-use c2_new_lengths_spec::the_length_of_a_new_store_fits;
 use c2_validate::one_opening;
 use std::alloc::Global;
 
@@ -63,27 +63,21 @@ fn plan_in<A: Source, B: Source, H: Hashing>(
     alloc: Global,
     hashing: &H,
     media: &mut A,
-    file: &MediaFile,
+    file: &Contained,
     definition: &mut B,
 ) -> Result<Blob, BuildError>
-    requires inside { HasRootsInside (A.len media.old) file.now.container }
+    requires inside { IsWithin (A.len media.old) file.now }
     requires found { ForSome (A.known media.old) (λ bytes. IsFoundIn bytes file.now) }
     ensures planned { ForSome (A.known media.old) (λ file. (bytes : List ℕ)
         → IsDefinitionTold file (B.known definition.old) bytes
         → IsAnswerTo (IsFrontPlanned H.digest_of file bytes) result) }
     ensures not_due { ForSome (A.known media.old) (λ file.
         IsMediaRefused file → definition.new ≡ definition.old) }
-    ensures media { ReadsSource A.len A.known A.faults
-        (IsPlanCause (Rose (B.faults definition.old) (B.faults definition.new)))
-        media.old media.new result }
-    ensures definition { ReadsSource B.len B.known B.faults
-        (IsPlanCause (Rose (A.faults media.old) (A.faults media.new)))
-        definition.old definition.new result }
+    ensures sources { ReadsPlanned IsPlanCause
+        (use_of A.len A.known A.faults media.old media.new)
+        (use_of B.len B.known B.faults definition.old definition.new) result }
 {
-    // Only the prover needs these laws.
-    one_opening();
     each_definition_is_read_one_way();
-    the_length_of_a_new_store_fits();
     let read = match read_media(alloc, file) {
         Ok(read) => read,
         Err(error) => return Err(error),
@@ -120,14 +114,10 @@ pub fn plan_front<A: Source, B: Source, H: Hashing>(
         IsMediaRefused file → definition.new ≡ definition.old) }
 
     // These hold of every source.
-    ensures media { ReadsSource A.len A.known A.faults
-        (IsPlanCause (Rose (B.faults definition.old) (B.faults definition.new)))
-        media.old media.new result }
-    ensures definition { ReadsSource B.len B.known B.faults
-        (IsPlanCause (Rose (A.faults media.old) (A.faults media.new)))
-        definition.old definition.new result }
+    ensures sources { ReadsPlanned IsPlanCause
+        (use_of A.len A.known A.faults media.old media.new)
+        (use_of B.len B.known B.faults definition.old definition.new) result }
 {
-    // Only the prover needs this law.
     one_opening();
     let file = match open_media(alloc, media) {
         Ok(file) => file,

@@ -1,9 +1,9 @@
 // What is ready to be written in front of a film, before anything is.
-ghost use Rattle.std.specs.Prelude.{◌≡◌, ◌⊎◌, IfErr, IfOk, length};
+ghost use Rattle.std.specs.Prelude.{◌≡◌, IfErr, IfOk, length};
 ghost use Rattle.std.specs.Option.{ForSome};
-ghost use Rattle.c2_base.specs.Causes.{Rose};
 ghost use Rattle.c2_base.specs.Source.{ReadsSource};
-ghost use Rattle.c2_container.specs.Contained.{HasRootsInside};
+ghost use Rattle.c2_container.specs.Contained.{IsWithin};
+ghost use Rattle.c2_build_endings.specs.Sources.{ReadsSigned, use_of};
 ghost use Rattle.c2_definition.specs.DefinitionFile.{IsWellFormed};
 ghost use Rattle.c2_bmff_binding_front.specs.Putting.{FitsIn};
 ghost use Rattle.c2_new_front_spec.specs.Outcomes.{IsBmffStage, IsMadeIn, Then, new_file};
@@ -23,17 +23,14 @@ use crate::parts::parts_over;
 use c2_base::limits::PIECE_LEN;
 use c2_base::{Blob, NoMemory, Source};
 use c2_bmff_binding_front::Front;
-use c2_build_base::{MediaFile, MediaRead, open_media, read_media};
+use c2_build_base::{MediaRead, open_media, read_media};
 use c2_build_refusals::{BuildError, padded, read_definition_file, read_message_file};
 use c2_cbor_spec::one_item;
-use c2_definition::{Definition, each_definition_is_read_one_way};
+use c2_container::Contained;
+use c2_definition::Definition;
 use c2_hash::Hashing;
 use c2_layout::{Carried, new_store};
-use c2_new_bmff_spec::a_new_bmff_store_has_one_length;
-use c2_new_lengths_spec::the_length_of_a_new_store_fits;
-use c2_new_signature::{
-    a_message_fills_its_reserve_or_needs_more, each_message_is_accepted_or_refused_for_one_test,
-};
+use c2_new_signature::each_message_is_accepted_or_refused_for_one_test;
 use c2_sigstruct::Sign1;
 use c2_validate::one_opening;
 use std::alloc::Global;
@@ -72,8 +69,6 @@ fn ready_with<A: Source, H: Hashing>(
     ensures can_write { IfOk result (CanWrite (A.len media.old)) }
     ensures reads { ReadsSource A.len A.known A.faults IsPlanStep media.old media.new result }
 {
-    // Only the prover needs this law.
-    a_new_bmff_store_has_one_length();
     let Ok(mut buffer) = vec![in alloc; 0u8; PIECE_LEN] else {
         return Err(BuildError::NoMemory);
     };
@@ -120,8 +115,6 @@ impl<'h, H: Hashing> Builder<'h, H> {
         ensures reads { ReadsSource A.len A.known A.faults IsPrepareStep
             media.old media.new result }
     {
-        // Only the prover needs this law.
-        a_message_fills_its_reserve_or_needs_more();
         let front = match drafted(self.alloc, media, file, definition) {
             Ok(front) => front,
             Err(error) => return Err(error),
@@ -147,35 +140,23 @@ impl<'h, H: Hashing> Builder<'h, H> {
     fn ready_in<A: Source, B: Source, C: Source>(
         &self,
         media: &mut A,
-        file: &MediaFile,
+        file: &Contained,
         definition: &mut B,
         signature: &mut C,
     ) -> Result<Ready, BuildError>
-        requires inside { HasRootsInside (A.len media.old) file.now.container }
+        requires inside { IsWithin (A.len media.old) file.now }
         requires found { ForSome (A.known media.old) (λ bytes. IsFoundIn bytes file.now) }
         ensures prepared { IsPrepared H.digest_of (A.known media.old) (B.known definition.old)
             (C.known signature.old) (A.len media.old) result }
         ensures not_due { LeavesUndue (A.known media.old) (B.known definition.old)
             definition.old definition.new signature.old signature.new }
-        ensures media { ReadsSource A.len A.known A.faults (IsPrepareCause
-            (Rose (B.faults definition.old) (B.faults definition.new)
-            ⊎ Rose (C.faults signature.old) (C.faults signature.new)))
-            media.old media.new result }
-        ensures definition { ReadsSource B.len B.known B.faults (IsPrepareCause
-            (Rose (A.faults media.old) (A.faults media.new)
-            ⊎ Rose (C.faults signature.old) (C.faults signature.new)))
-            definition.old definition.new result }
-        ensures message { ReadsSource C.len C.known C.faults (IsPrepareCause
-            (Rose (A.faults media.old) (A.faults media.new)
-            ⊎ Rose (B.faults definition.old) (B.faults definition.new)))
-            signature.old signature.new result }
+        ensures sources { ReadsSigned IsPrepareCause
+            (use_of A.len A.known A.faults media.old media.new)
+            (use_of B.len B.known B.faults definition.old definition.new)
+            (use_of C.len C.known C.faults signature.old signature.new) result }
     {
-        // Only the prover needs these laws.
-        one_opening();
-        each_definition_is_read_one_way();
         one_item();
         each_message_is_accepted_or_refused_for_one_test();
-        the_length_of_a_new_store_fits();
         let read = match read_media(self.alloc, file) {
             Ok(read) => read,
             Err(error) => return Err(error),
@@ -204,20 +185,11 @@ pub(crate) fn prepare<A: Source, B: Source, C: Source, H: Hashing>(
         (C.known signature.old) (A.len media.old) result }
     ensures not_due { LeavesUndue (A.known media.old) (B.known definition.old)
         definition.old definition.new signature.old signature.new }
-    ensures media { ReadsSource A.len A.known A.faults (IsPrepareCause
-        (Rose (B.faults definition.old) (B.faults definition.new)
-        ⊎ Rose (C.faults signature.old) (C.faults signature.new)))
-        media.old media.new result }
-    ensures definition { ReadsSource B.len B.known B.faults (IsPrepareCause
-        (Rose (A.faults media.old) (A.faults media.new)
-        ⊎ Rose (C.faults signature.old) (C.faults signature.new)))
-        definition.old definition.new result }
-    ensures message { ReadsSource C.len C.known C.faults (IsPrepareCause
-        (Rose (A.faults media.old) (A.faults media.new)
-        ⊎ Rose (B.faults definition.old) (B.faults definition.new)))
-        signature.old signature.new result }
+    ensures sources { ReadsSigned IsPrepareCause
+        (use_of A.len A.known A.faults media.old media.new)
+        (use_of B.len B.known B.faults definition.old definition.new)
+        (use_of C.len C.known C.faults signature.old signature.new) result }
 {
-    // Only the prover needs this law.
     one_opening();
     let builder = Builder { alloc, hashing };
     let file = match open_media(alloc, media) {

@@ -2,7 +2,7 @@
 ghost use Rattle.std.specs.Prelude.{◌≡◌, length};
 ghost use Rattle.c2_base.specs.Sink.{WritesSink, unsaid};
 ghost use Rattle.c2_base.specs.Source.{ReadsSource};
-ghost use Rattle.c2_copying.specs.Writing.{IsReadCause, IsWriteCause};
+ghost use Rattle.c2_copying.specs.Writing.{IsCopyReadCause, IsCopyWriteCause};
 ghost use Rattle.c2_bmff_binding_front.specs.Putting.{with_store};
 ghost use Rattle.c2_build_writing.specs.Puts.{WritesOver};
 ghost use Rattle.c2_build_front.specs.Steps.{CanWriteFront};
@@ -31,8 +31,10 @@ fn write_named<'m, A: Source, N: NamedTables, K: Sink>(
     ensures same { result.ghost_name ≡ media.entry.ghost_name }
     ensures written { WritesOver K.written K.spare K.finished (with_store front.now store.now)
         (A.known media.old) out.old out.new done.new }
-    ensures reads { ReadsSource A.len A.known A.faults IsReadCause media.old result.now done.new }
-    ensures writes { WritesSink K.written unsaid K.faults IsWriteCause out.old out.new done.new }
+    ensures reads { ReadsSource A.len A.known A.faults IsCopyReadCause
+        media.old result.now done.new }
+    ensures writes { WritesSink K.written unsaid K.faults IsCopyWriteCause
+        out.old out.new done.new }
 {
     let moves = FRAME_LEN + front.store_len;
     let draft = Draft {
@@ -58,8 +60,8 @@ pub(crate) fn write_front<A: Source, K: Sink>(
     requires can { CanWriteFront (A.len media.old) front.now store.now (length buf.old) }
     ensures written { WritesOver K.written K.spare K.finished (with_store front.now store.now)
         (A.known media.old) out.old out.new result }
-    ensures reads { ReadsSource A.len A.known A.faults IsReadCause media.old media.new result }
-    ensures writes { WritesSink K.written unsaid K.faults IsWriteCause out.old out.new result }
+    ensures reads { ReadsSource A.len A.known A.faults IsCopyReadCause media.old media.new result }
+    ensures writes { WritesSink K.written unsaid K.faults IsCopyWriteCause out.old out.new result }
 {
     let mut done = Ok(());
     let _media = write_named::<A, Brand, K>(media, front, store, buf, out, &mut done);

@@ -1,10 +1,9 @@
 -- How the writing of a new file ends, and what that says of its sources and of its sink.
-use Rattle.std.proofs.Common.{◌≡◌, inl, inr, ℕ, ◌<◌, Bool, List, [], length, Option, Some, None, refl, sym, ap, subst, append-nil}
+use Rattle.std.proofs.Common.{◌≡◌, inl, inr, ℕ, ◌<◌, Bool, List, length, Option, refl, sym, subst}
 use Rattle.std.specs.Prelude.{⊤}
 use Rattle.c2_base.specs.Causes.{Rose}
-use Rattle.c2_base.specs.Sink.{then_written}
 use Rattle.c2_copying.specs.Writing.{Begins, Breaks, Delivers, WritesFile, complete, ending_of}
-use Rattle.c2_copying.specs.Writing.{IsReadCause as CopyReadCause, IsWriteCause as CopyWriteCause}
+use Rattle.c2_copying.specs.Writing.{IsCopyReadCause as CopyReadCause, IsCopyWriteCause as CopyWriteCause}
 use Rattle.c2_copying.specs.declared.copying.CopyError.{CopyError}
 use Rattle.c2_copying.specs.declared.copying.CopyError.TheVariants as copying
 use Rattle.c2_build_writing.specs.Puts.{copy_fault_of}
@@ -14,23 +13,22 @@ use Rattle.c2_build_refusals.specs.Sinks.{IsOutCause, KindLeaves}
 use Rattle.c2_build_refusals.specs.declared.error.BuildError.{BuildError}
 use Rattle.c2_build_refusals.proofs.Judged.{IsUnjudged}
 use Rattle.c2_build_endings.specs.Endings.{kind_ending}
+use Rattle.c2_base.proofs.Written.{then_nothing}
 
 -- ---- nothing was written
 
--- what was written, and then nothing
-then_none : (w : Option (List ℕ)) → w ≡ then_written w []
-then_none None = refl
-then_none (Some w) = ap Some (sym (append-nil w))
-
 -- nothing is written by what writes no file
-pub unwritten : (does : Effects) → (MayCome does.writes_file ⊤ → ⊥) → {K : Type 0} (Other : Type 0) (written : K → Option (List ℕ)) (spare : K → Option ℕ) (finished : K → Bool) (W : List ℕ → Type 0) (s : K) (m n : ℕ) (k : ErrorKind) → IsSourceCause does Other m n k
+pub unwritten : (does : Effects) → (MayCome does.writes_file ⊤ → ⊥)
+    → {K : Type 0} (Other : Type 0) (written : K → Option (List ℕ)) (spare : K → Option ℕ) (finished : K → Bool) (W : List ℕ → Type 0) (s : K) (m n : ℕ) (k : ErrorKind)
+    → IsSourceCause does Other m n k
     → WritesFile written spare finished W s s (kind_ending k)
 unwritten does none Other written spare finished W s m n kind.refusal h = record { wrote = tt; fits = tt }
 unwritten does none Other written spare finished W s m n kind.message_refusal h = record { wrote = tt; fits = tt }
 unwritten does none Other written spare finished W s m n kind.front_refusal h = record { wrote = tt; fits = tt }
 unwritten does none Other written spare finished W s m n kind.older_refusal h = record { wrote = tt; fits = tt }
 unwritten does none Other written spare finished W s m n kind.other_refusal h = record { wrote = tt; fits = tt }
-unwritten does none Other written spare finished W s m n kind.read_fault h = record { wrote = λ bytes is. record { prefix = (0, then_none (written s)); unfinished = refl }; fits = tt }
+unwritten does none Other written spare finished W s m n kind.read_fault h =
+    record { wrote = λ bytes is. record { prefix = (0, then_nothing (written s)); unfinished = refl }; fits = tt }
 unwritten does none Other written spare finished W s m n kind.judge_fault h = record { wrote = tt; fits = tt }
 unwritten does none Other written spare finished W s m n kind.write_fault h = absurd (none h)
 unwritten does none Other written spare finished W s m n kind.no_memory h = record { wrote = tt; fits = tt }
@@ -39,16 +37,21 @@ unwritten does none Other written spare finished W s m n kind.no_memory h = reco
 
 module _ {K : Type 0} (written : K → Option (List ℕ)) (spare : K → Option ℕ) (finished : K → Bool) (Writes : List ℕ → Type 0) (file : List ℕ) where
   -- all of a file
-  pub all_written : (old new : K) → Writes file → Delivers written finished file old new → WritesFile written spare finished Writes old new complete
+  pub all_written : (old new : K) → Writes file → Delivers written finished file old new
+      → WritesFile written spare finished Writes old new complete
   all_written old new is h = record { wrote = (file, is, h); fits = tt }
 
   module _ (one : (bytes : List ℕ) → Writes bytes → file ≡ bytes) where
-    -- it is begun, where nothing else is written
-    prefix_written : (old new : K) (e : CopyError) → Breaks written spare finished file old new (ending_of e) → (bytes : List ℕ) → Writes bytes → Begins written finished bytes old new
-    prefix_written old new e h bytes w = subst (λ (x : List ℕ). Begins written finished x old new) (one bytes w) (record { prefix = h.prefix; unfinished = h.same })
+    -- a file is begun where its writing broke off and nothing else is written
+    prefix_written : (old new : K) (e : CopyError) → Breaks written spare finished file old new (ending_of e)
+        → (bytes : List ℕ) → Writes bytes → Begins written finished bytes old new
+    prefix_written old new e h bytes w =
+        subst (λ (x : List ℕ). Begins written finished x old new) (one bytes w)
+        (record { prefix = h.prefix; unfinished = h.same })
 
-    -- so a prefix of it is written where a source fails, and where the sink fails, which then couldn't state that it holds it
-    pub begun : (old new : K) (e : CopyError) → Breaks written spare finished file old new (ending_of e) → WritesFile written spare finished Writes old new (ending_of e)
+    -- a prefix of the new file is written where a source fails, and where the sink fails, which then couldn't state that it holds the file
+    pub begun : (old new : K) (e : CopyError) → Breaks written spare finished file old new (ending_of e)
+        → WritesFile written spare finished Writes old new (ending_of e)
     begun old new copying.ReadFault h = record { wrote = prefix_written old new copying.ReadFault h; fits = tt }
     begun old new copying.WriteFault h = record {
       wrote = prefix_written old new copying.WriteFault h;
@@ -57,24 +60,29 @@ module _ {K : Type 0} (written : K → Option (List ℕ)) (spare : K → Option 
 
 -- ---- the causes of a fault in the copy
 
--- of the source that it reads
-pub copy_source : (does : Effects) → MayCome does.writes_file ⊤ → (Other : Type 0) (m n : ℕ) (e : CopyError) (f : BuildError) → f ≡ copy_fault_of e → CopyReadCause m n e → IsSourceCause does Other m n (kind_of f)
+-- the cause of a fault in the copy, of the source that the copy reads
+pub copy_source : (does : Effects) → MayCome does.writes_file ⊤
+    → (Other : Type 0) (m n : ℕ) (e : CopyError) (f : BuildError) → f ≡ copy_fault_of e → CopyReadCause m n e
+    → IsSourceCause does Other m n (kind_of f)
 copy_source does may Other m n e f same h = subst (λ (x : BuildError). IsSourceCause does Other m n (kind_of x)) (sym same) (by e h)
   where
     by : (c : CopyError) → CopyReadCause m n c → IsSourceCause does Other m n (kind_of (copy_fault_of c))
     by copying.ReadFault k = inl k
     by copying.WriteFault k = may
 
--- of one beside it
-pub copy_beside : (does : Effects) → MayCome does.writes_file ⊤ → {Other : Type 0} (i j m n : ℕ) (e : CopyError) (f : BuildError) → f ≡ copy_fault_of e → (Rose m n → Other) → CopyReadCause m n e → IsSourceCause does Other i j (kind_of f)
+-- the cause of a fault in the copy, of a source beside the one that it reads
+pub copy_beside : (does : Effects) → MayCome does.writes_file ⊤
+    → {Other : Type 0} (i j m n : ℕ) (e : CopyError) (f : BuildError) → f ≡ copy_fault_of e → (Rose m n → Other)
+    → CopyReadCause m n e → IsSourceCause does Other i j (kind_of f)
 copy_beside does may {Other} i j m n e f same rose h = subst (λ (x : BuildError). IsSourceCause does Other i j (kind_of x)) (sym same) (by e h)
   where
     by : (c : CopyError) → CopyReadCause m n c → IsSourceCause does Other i j (kind_of (copy_fault_of c))
     by copying.ReadFault k = inr (rose k)
     by copying.WriteFault k = may
 
--- of its sink
-pub copy_sink : (m n : ℕ) (e : CopyError) (f : BuildError) → f ≡ copy_fault_of e → CopyWriteCause m n e → IsOutCause m n f
+-- the cause of a fault in the copy, of its sink
+pub copy_sink : (m n : ℕ) (e : CopyError) (f : BuildError) → f ≡ copy_fault_of e → CopyWriteCause m n e
+    → IsOutCause m n f
 copy_sink m n e f same h = subst (IsOutCause m n) (sym same) (by e h)
   where
     by : (c : CopyError) → CopyWriteCause m n c → IsOutCause m n (copy_fault_of c)

@@ -5,7 +5,7 @@ use Rattle.std.specs.declared.result.Result.TheVariants.{Ok}
 use Rattle.c2_base.specs.declared.limits.TheConstants.{MAX_STORE_LEN}
 use Rattle.c2_definition.specs.DefinitionFile.{IsDefinition}
 use Rattle.c2_definition.specs.declared.types.Definition.{Definition}
-use Rattle.c2_new_store_spec.specs.Store.{Content}
+use Rattle.c2_new_file_spec.specs.Store.{Content}
 use Rattle.c2_new_file_spec.specs.Places.{IsPlace, Place, in_boxes, in_segments, place_start}
 use Rattle.c2_build_refusals.specs.Refusals.{first_refusal, new_range_len, place_tests}
 use Rattle.c2_build_refusals.specs.InsertPoints.{IsInsertPoint}

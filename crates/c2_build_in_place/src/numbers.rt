@@ -4,7 +4,7 @@ ghost use Rattle.c2_base.specs.declared.limits.TheConstants as limits;
 ghost use Rattle.c2_spec.specs.Digest.{zero_digest};
 ghost use Rattle.c2_spec.specs.Jpeg.Writing as jpeg;
 ghost use Rattle.c2_spec.specs.declared.packets.TheConstants.{LEAST_STORE_LEN};
-ghost use Rattle.c2_new_store_spec.specs.Store.{Content};
+ghost use Rattle.c2_new_file_spec.specs.Store.{Content};
 ghost use Rattle.c2_new_file_spec.specs.Places.{IsPlace, Place};
 ghost use Rattle.c2_build_refusals.specs.Kinds.{IsOlderQuiet, IsQuiet};
 ghost use Rattle.c2_build_refusals.specs.Refusals.{box_tests, first_refusal, number_tests, place_tests};

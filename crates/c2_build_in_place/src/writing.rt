@@ -2,7 +2,7 @@
 ghost use Rattle.std.specs.Prelude.{◌≡◌};
 ghost use Rattle.c2_base.specs.Sink.{WritesSink, unsaid};
 ghost use Rattle.c2_base.specs.Source.{ReadsSource};
-ghost use Rattle.c2_copying.specs.Writing.{IsReadCause, IsWriteCause};
+ghost use Rattle.c2_copying.specs.Writing.{IsCopyReadCause, IsCopyWriteCause};
 ghost use Rattle.c2_build_writing.specs.Puts.{WritesOver};
 ghost use Rattle.c2_build_in_place.specs.Writings.{CanWrite, ready_file};
 
@@ -19,7 +19,7 @@ pub struct Ready {
     /// The new store.
     pub store: Blob,
 
-    /// Where it goes, and how.
+    /// Where the new store goes, and how.
     pub draft: Draft,
 
     /// How the media is cleared of its older store.
@@ -44,8 +44,10 @@ fn write_left<'m, A: Source, L: Named, K: Sink>(
     ensures same { result.ghost_name ≡ media.entry.ghost_name }
     ensures written { WritesOver K.written K.spare K.finished (ready_file ready)
         (A.known media.old) out.old out.new done.new }
-    ensures reads { ReadsSource A.len A.known A.faults IsReadCause media.old result.now done.new }
-    ensures writes { WritesSink K.written unsaid K.faults IsWriteCause out.old out.new done.new }
+    ensures reads { ReadsSource A.len A.known A.faults IsCopyReadCause
+        media.old result.now done.new }
+    ensures writes { WritesSink K.written unsaid K.faults IsCopyWriteCause
+        out.old out.new done.new }
 {
     let Ready {
         store,
@@ -68,8 +70,8 @@ pub fn write_file<A: Source, K: Sink>(
     requires { CanWrite (A.len media.old) ready }
     ensures written { WritesOver K.written K.spare K.finished (ready_file ready)
         (A.known media.old) out.old out.new result }
-    ensures reads { ReadsSource A.len A.known A.faults IsReadCause media.old media.new result }
-    ensures writes { WritesSink K.written unsaid K.faults IsWriteCause out.old out.new result }
+    ensures reads { ReadsSource A.len A.known A.faults IsCopyReadCause media.old media.new result }
+    ensures writes { WritesSink K.written unsaid K.faults IsCopyWriteCause out.old out.new result }
 {
     let mut done = Ok(());
     let _media = write_left::<A, Brand, K>(media, ready, out, &mut done);

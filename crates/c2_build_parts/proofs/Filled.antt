@@ -15,8 +15,9 @@ filled_from size low (r ∷ rs) f = omega (arith, filled_from size (low + r.leng
 -- each of them ends in the source
 filled_each : (size low : ℕ) (rows : List RootBox) → FillSource size low rows → AllByRecursion (IsBoxWithin size) rows
 filled_each size low [] f = tt
-filled_each size low (r ∷ rs) f = (omega (arith, f.0, filled_from size (low + r.length) rs f.3), filled_each size (low + r.length) rs f.3)
+filled_each size low (r ∷ rs) f =
+    (omega (arith, f.0, filled_from size (low + r.length) rs f.3), filled_each size (low + r.length) rs f.3)
 
--- so all do
+-- all root boxes that fill a source end in it
 pub filled_within : (size : ℕ) (rows : List RootBox) → FillSource size 0 rows → All (IsBoxWithin size) rows
 filled_within size rows f = All-from_recursion (IsBoxWithin size) rows (filled_each size 0 rows f)

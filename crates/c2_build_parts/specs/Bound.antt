@@ -9,11 +9,11 @@ use Rattle.c2_spec.specs.Digest.{digest_len}
 use Rattle.c2_spec.specs.declared.digest.Alg.{Alg}
 use Rattle.c2_definition.specs.declared.types.Definition.{Definition}
 use Rattle.c2_definition.specs.declared.types.NewAssertion.{NewAssertion}
-use Rattle.c2_new_store_spec.specs.Built.{built_len, store_size}
+use Rattle.c2_new_file_spec.specs.Built.{built_len, store_size}
 use Rattle.c2_layout.specs.Parts.{AreParts, IsContent}
-use Rattle.c2_new_store_spec.specs.Store.{Content, data_binding, new_alg}
+use Rattle.c2_new_file_spec.specs.Store.{Content, data_binding, new_alg}
 use Rattle.c2_layout.specs.declared.parts.NewParts.{NewParts}
-use Rattle.c2_new_bmff_spec.specs.Films.{new_bmff_binding, bmff_len, bmff_store_size}
+use Rattle.c2_new_file_spec.specs.Films.{new_bmff_binding, bmff_len, bmff_store_size}
 use Rattle.c2_new_file_spec.specs.Places.{IsPlace, Place, bound_text}
 use Rattle.c2_build_refusals.specs.declared.types.Drafted.{Drafted}
 use Rattle.c2_build_refusals.specs.declared.error.BuildError.{BuildError}

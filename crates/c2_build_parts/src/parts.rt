@@ -5,7 +5,7 @@ ghost use Rattle.c2_without_store.specs.Clears.{cleared, cleared_len};
 ghost use Rattle.c2_spec.specs.Digest.{digest_len};
 ghost use Rattle.c2_definition.specs.DefinitionFile.{IsWellFormed};
 ghost use Rattle.c2_layout.specs.Parts.{AreParts, IsContent, parts_size};
-ghost use Rattle.c2_new_store_spec.specs.Store.{Content, new_alg};
+ghost use Rattle.c2_new_file_spec.specs.Store.{Content, new_alg};
 ghost use Rattle.c2_build_parts.specs.Bound.{AreNewParts, IsBoundDigest, IsOverBase, IsSmall, point_binding, point_store_len};
 ghost use Rattle.c2_build_refusals.specs.Kinds.{IsReadCause, SaysNothing};
 
@@ -17,8 +17,6 @@ use c2_build_refusals::{BuildError, Drafted, InsertPoint};
 use c2_definition::{Definition, NewAssertion};
 use c2_hash::{Alg, Digest, Hashing};
 use c2_layout::{NewParts, bound_parts, data_binding};
-use c2_new_bmff_spec::a_new_bmff_store_has_one_length;
-use c2_new_store_spec::a_new_store_has_one_length;
 use c2_without_store::{Clearing, Named, WithoutStore};
 use std::alloc::Global;
 use std::marker::Brand;
@@ -155,9 +153,6 @@ fn parts_with<H: Hashing>(
         + parts_size definition.now.label p definition.now.reserve
         ≡ point_store_len drafted.now.point c) }
 {
-    // Only the prover needs these laws.
-    a_new_store_has_one_length();
-    a_new_bmff_store_has_one_length();
     let range = Range {
         start: drafted.draft.start,
         length: drafted.draft.length,

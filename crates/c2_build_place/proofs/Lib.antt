@@ -1,1 +1,1 @@
-mod Walked
+mod Points

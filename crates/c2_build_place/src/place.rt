@@ -1,162 +1,123 @@
 // Where a new store goes in a media file without its older store.
-ghost use Rattle.std.specs.Prelude.{◌≡◌, ◌<◌, IfErr, IfOk, OnOk};
-ghost use Rattle.std.specs.Option.{ForSome};
-ghost use Rattle.c2_base.specs.Source.{ReadsSource, StaysSource};
+ghost use Rattle.std.specs.Prelude.{◌≡◌, ◌<◌, ℕ, true, List, None, Some, Ok, IfOk};
 ghost use Rattle.c2_base.specs.declared.limits.TheConstants.{FILE_LEN_LIMIT};
-ghost use Rattle.c2_build_place.specs.PointsLeft.{HasInsertPoint, IsPointLeft, TellsNoPlace};
-ghost use Rattle.c2_build_refusals.specs.InsertPoints.{IsForm, IsInsertPointIn};
-ghost use Rattle.c2_build_refusals.specs.Kinds.{IsReadCause};
+ghost use Rattle.c2_spec.specs.Container.{is_bmff};
+ghost use Rattle.c2_bmff_boxes.specs.Roots.{AreRootsOf, FillSource};
+ghost use Rattle.c2_bmff_boxes.specs.Search.{IsStoreOr};
+ghost use Rattle.c2_container.specs.Contained.{IsSaid, IsWithin};
+ghost use Rattle.c2_container.specs.declared.types.Container.TheVariants.{Jpeg};
+ghost use Rattle.c2_without_store.specs.Clears.{cleared, cleared_len, root_clearing};
+ghost use Rattle.c2_jpegseg_survey.specs.Surveys.{range_of};
+ghost use Rattle.c2_new_file_spec.specs.Bases.{IsLeft};
+ghost use Rattle.c2_build_refusals.specs.InsertPoints.{IsInsertPointIn};
+ghost use Rattle.c2_build_place.specs.PointsLeft.{HasInsertPoint, clearing_for};
 
-use c2_base::{Failed, Range, Source};
-use c2_bmff_boxes::{a_bmff_file_comes_to_one_thing, roots};
-use c2_build_refusals::{BuildError, FileForm, InsertPoint, media_error};
-use c2_jpegseg::{free_number, insert_place, segments_end_or_fail};
-use c2_without_store::{Clearing, Named, WithoutStore};
+use c2_base::{Found, NoMemory, Range};
+use c2_bmff_boxes::roots_len;
+use c2_bmff_boxes::types::Roots;
+use c2_build_refusals::InsertPoint;
+use c2_container::{Contained, Container};
+use c2_without_store::{Clearing, clearing_of, roots_left};
 use std::alloc::Global;
-use std::marker::Brand;
 
-// No range is left out.
-const NO_RANGE: Range = Range {
-    start: 0,
-    length: 0,
-};
-
-/// A file without a store, as its place was looked for.
+/// A place in a file without a store.
 #[derive(Debug, Drop)]
 pub struct SizedPoint {
-    /// How many bytes it has.
+    /// How many bytes the file has.
     pub size: u64,
 
     /// The place.
     pub point: InsertPoint,
 }
 
-// The place in a JPEG file.
-fn point_in_segments<B: Source>(alloc: Global, base: &mut B) -> Result<InsertPoint, BuildError>
-    ensures point { IfOk result (λ s. ForSome (B.known base.old) (λ file.
-        IsForm file FileForm.Jpeg → HasInsertPoint file s)) }
-    ensures told { IfErr result (λ e. ForSome (B.known base.old) (λ file.
-        IsForm file FileForm.Jpeg → TellsNoPlace file e)) }
-    ensures inside { IfOk result (IsInsertPointIn (B.len base.old)) }
-    ensures short { OnOk result (B.len base.old < FILE_LEN_LIMIT) }
-    ensures cause { IfErr result (IsReadCause (B.faults base.old) (B.faults base.new)) }
-    ensures count { OnOk result (B.faults base.new ≡ B.faults base.old) }
-    ensures stays { StaysSource B.len B.known B.faults base.old base.new }
+// The range of a store that was found; an empty one where none was.
+fn found_range(found: &Option<Found>) -> Range
+    ensures { result ≡ range_of found.now }
 {
-    // Only the prover needs this law.
-    segments_end_or_fail();
-    let start = match insert_place(base, NO_RANGE) {
-        Ok(start) => start,
-        Err(error) => return Err(media_error(error)),
+    match found {
+        Some(found) => Range {
+            start: found.start,
+            length: found.length,
+        },
+        None => Range {
+            start: 0,
+            length: 0,
+        },
+    }
+}
+
+/// How a media file that was opened so is cleared of its store: the range of its packets is cut out of a JPEG file, and a BMFF file is
+/// cleared to its base. Nothing is cut out of a file without a store. Takes no memory.
+pub fn cleared_of(file: &Contained) -> Clearing
+    ensures is { result ≡ clearing_for file.now }
+    ensures left { (bytes : List ℕ) (f : Found) → file.now.found ≡ Some f
+        → IsSaid bytes (Ok file.now) → IsLeft bytes f.start f.length (cleared result bytes) }
+    ensures fresh { file.now.found ≡ None → (bytes : List ℕ) → cleared result bytes ≡ bytes }
+{
+    match &file.container {
+        Container::Jpeg => Clearing::Cut(found_range(&file.found)),
+        Container::Bmff(roots) => clearing_of(roots, &file.found),
+    }
+}
+
+// The place in what is left of a JPEG file.
+fn in_segments(file: &Contained) -> SizedPoint
+    requires container { file.now.container ≡ Jpeg }
+    requires within { (len : ℕ) × IsWithin len file.now }
+    ensures point { (bytes : List ℕ) → IsSaid bytes (Ok file.now)
+        → HasInsertPoint (cleared (clearing_for file.now) bytes) result.point }
+    ensures size { (len : ℕ) → IsWithin len file.now
+        → result.size ≡ cleared_len (clearing_for file.now) len }
+    ensures inside { IsInsertPointIn result.size result.point }
+    ensures short { result.size < FILE_LEN_LIMIT }
+{
+    let Some(packets) = file.packets else {
+        unreachable!()
     };
-    match free_number(alloc, base, NO_RANGE) {
-        Ok(number) => Ok(InsertPoint::Segments { start, number }),
-        Err(error) => Err(media_error(error)),
+    SizedPoint {
+        size: packets.size,
+        point: InsertPoint::Segments {
+            start: packets.start,
+            number: packets.number,
+        },
     }
 }
 
-// The place in a BMFF file.
-fn point_in_boxes<B: Source>(alloc: Global, base: &mut B) -> Result<InsertPoint, BuildError>
-    ensures point { IfOk result (λ s. ForSome (B.known base.old) (λ file.
-        IsForm file FileForm.Bmff → HasInsertPoint file s)) }
-    ensures told { IfErr result (λ e. ForSome (B.known base.old) (λ file.
-        IsForm file FileForm.Bmff → TellsNoPlace file e)) }
-    ensures inside { IfOk result (IsInsertPointIn (B.len base.old)) }
-    ensures short { OnOk result (B.len base.old < FILE_LEN_LIMIT) }
-    ensures cause { IfErr result (IsReadCause (B.faults base.old) (B.faults base.new)) }
-    ensures count { OnOk result (B.faults base.new ≡ B.faults base.old) }
-    ensures stays { StaysSource B.len B.known B.faults base.old base.new }
+// The place in what is left of a BMFF file with these root boxes, in which this was found.
+fn in_boxes(alloc: Global, roots: &Roots, found: &Option<Found>) -> Result<SizedPoint, NoMemory>
+    requires { (len : ℕ) × (len < FILE_LEN_LIMIT) × FillSource len 0 roots.now }
+    ensures point { IfOk result (λ p. (bytes : List ℕ) → is_bmff bytes ≡ true
+        → AreRootsOf bytes roots.now → IsStoreOr bytes (Ok found.now)
+        → HasInsertPoint (cleared (root_clearing found.now roots.now) bytes) p.point) }
+    ensures size { IfOk result (λ p. (len : ℕ) → FillSource len 0 roots.now
+        → p.size ≡ cleared_len (root_clearing found.now roots.now) len) }
+    ensures inside { IfOk result (λ p. IsInsertPointIn p.size p.point) }
+    ensures short { IfOk result (λ p. p.size < FILE_LEN_LIMIT) }
 {
-    // Only the prover needs this law.
-    a_bmff_file_comes_to_one_thing();
-    match roots(alloc, base) {
-        Ok(roots) => Ok(InsertPoint::Boxes(roots)),
-        Err(error) => Err(media_error(error)),
+    let left = roots_left(alloc, roots, found)?;
+    let size = roots_len(&left);
+    Ok(SizedPoint {
+        size,
+        point: InsertPoint::Boxes(left),
+    })
+}
+
+/// Where a new store goes in what is left of a media file that was opened so, once it is cleared of its store. The file isn't read: what
+/// was read when it was opened tells the place.
+pub fn find_insert_point(alloc: Global, file: &Contained) -> Result<SizedPoint, NoMemory>
+    requires { (len : ℕ) × IsWithin len file.now }
+    // Where the bytes are known.
+    ensures point { IfOk result (λ p. (bytes : List ℕ) → IsSaid bytes (Ok file.now)
+        → HasInsertPoint (cleared (clearing_for file.now) bytes) p.point) }
+
+    // These hold of every file.
+    ensures size { IfOk result (λ p. (len : ℕ) → IsWithin len file.now
+        → p.size ≡ cleared_len (clearing_for file.now) len) }
+    ensures inside { IfOk result (λ p. IsInsertPointIn p.size p.point) }
+    ensures short { IfOk result (λ p. p.size < FILE_LEN_LIMIT) }
+{
+    match &file.container {
+        Container::Jpeg => Ok(in_segments(file)),
+        Container::Bmff(roots) => in_boxes(alloc, roots, &file.found),
     }
-}
-
-// The place in a file of this form.
-fn point_in<B: Source>(
-    alloc: Global,
-    base: &mut B,
-    form: FileForm,
-) -> Result<InsertPoint, BuildError>
-    ensures point { IfOk result (λ s. ForSome (B.known base.old) (λ file.
-        IsForm file form → HasInsertPoint file s)) }
-    ensures told { IfErr result (λ e. ForSome (B.known base.old) (λ file.
-        IsForm file form → TellsNoPlace file e)) }
-    ensures inside { IfOk result (IsInsertPointIn (B.len base.old)) }
-    ensures short { OnOk result (B.len base.old < FILE_LEN_LIMIT) }
-    ensures cause { IfErr result (IsReadCause (B.faults base.old) (B.faults base.new)) }
-    ensures count { OnOk result (B.faults base.new ≡ B.faults base.old) }
-    ensures stays { StaysSource B.len B.known B.faults base.old base.new }
-{
-    match form {
-        FileForm::Jpeg => point_in_segments(alloc, base),
-        FileForm::Bmff => point_in_boxes(alloc, base),
-    }
-}
-
-// The place in a file of this form, with the file's length.
-fn sized_point_in<B: Source>(
-    alloc: Global,
-    base: &mut B,
-    form: FileForm,
-) -> Result<SizedPoint, BuildError>
-    ensures point { IfOk result (λ s. ForSome (B.known base.old) (λ file.
-        IsForm file form → HasInsertPoint file s.point)) }
-    ensures told { IfErr result (λ e. ForSome (B.known base.old) (λ file.
-        IsForm file form → TellsNoPlace file e)) }
-    ensures size { IfOk result (λ s. s.size ≡ B.len base.old) }
-    ensures inside { IfOk result (λ s. IsInsertPointIn s.size s.point) }
-    ensures short { IfOk result (λ s. s.size < FILE_LEN_LIMIT) }
-    ensures cause { IfErr result (IsReadCause (B.faults base.old) (B.faults base.new)) }
-    ensures count { OnOk result (B.faults base.new ≡ B.faults base.old) }
-    ensures stays { StaysSource B.len B.known B.faults base.old base.new }
-{
-    let size = match base.size() {
-        Ok(size) => size,
-        Err(Failed) => return Err(BuildError::ReadFault),
-    };
-    // Matched and not handed up by `?`: each way out has clauses of its own.
-    match point_in(alloc, base, form) {
-        Ok(point) => Ok(SizedPoint { size, point }),
-        Err(error) => Err(error),
-    }
-}
-
-// Puts the place in what is left into `found`, of a media file of which this is known, and gives the file back.
-fn point_left<'m, A: Source, K: Named>(
-    alloc: Global,
-    media: &'m mut A,
-    clearing: Clearing,
-    form: FileForm,
-    found: &mut Result<SizedPoint, BuildError>,
-) -> &'m mut A
-    requires name { media.ghost_name ≡ K.name }
-    requires len { A.len media.old ≡ K.len }
-    requires known { A.known media.old ≡ K.known }
-    ensures same { result.ghost_name ≡ media.entry.ghost_name }
-    ensures point { IsPointLeft clearing form (A.known media.old) (A.len media.old) found.new }
-    ensures reads { ReadsSource A.len A.known A.faults IsReadCause media.old result.now found.new }
-{
-    let mut base = WithoutStore::<A, K>::new(media, clearing);
-    *found = sized_point_in(alloc, &mut base, form);
-    base.into_media()
-}
-
-/// Where a new store goes in what is left of a media file of this form, once it is cleared. Where what is left has a free place, only two
-/// errors come: `ReadFault` where the file's count of faults rose in this call, and `NoMemory` where memory ran out.
-pub fn find_insert_point<A: Source>(
-    alloc: Global,
-    media: &mut A,
-    clearing: Clearing,
-    form: FileForm,
-) -> Result<SizedPoint, BuildError>
-    ensures point { IsPointLeft clearing form (A.known media.old) (A.len media.old) result }
-    ensures reads { ReadsSource A.len A.known A.faults IsReadCause media.old media.new result }
-{
-    let mut found = Err(BuildError::NoMemory);
-    let _media = point_left::<A, Brand>(alloc, media, clearing, form, &mut found);
-    found
 }

@@ -19,7 +19,7 @@ may_more true true P f h = h
 may_more true false P f h = absurd (f tt)
 may_more false b P f h = absurd h
 
--- so the cause of an error of the step, which reads one source, is one of the call
+-- the cause of an error of a step that does no more than a call, and reads one source, is one of the call
 pub more_read : (a b : Effects) → DoesNoMore a b → (m n : ℕ) (k : ErrorKind) → IsReadKind a m n k → IsReadKind b m n k
 more_read a b does m n refusal h = h
 more_read a b does m n message_refusal h = may_more a.reads_message b.reads_message (n ≡ m) does.message h
@@ -31,8 +31,9 @@ more_read a b does m n judge_fault h = h
 more_read a b does m n write_fault h = h
 more_read a b does m n no_memory h = h
 
--- and that of a step that may ask judges
-pub more_cause : (a b : Effects) → DoesNoMore a b → (Other : Type 0) (m n : ℕ) (k : ErrorKind) → IsSourceCause a Other m n k → IsSourceCause b Other m n k
+-- the cause of an error of a step that does no more than a call, and may ask judges, is one of the call
+pub more_cause : (a b : Effects) → DoesNoMore a b → (Other : Type 0) (m n : ℕ) (k : ErrorKind)
+    → IsSourceCause a Other m n k → IsSourceCause b Other m n k
 more_cause a b does Other m n refusal h = h
 more_cause a b does Other m n message_refusal h = may_more a.reads_message b.reads_message (n ≡ m) does.message h
 more_cause a b does Other m n front_refusal h = may_more a.moves_tables b.moves_tables (n ≡ m) does.tables h
@@ -46,7 +47,9 @@ more_cause a b does Other m n no_memory h = h
 -- ---- the sink
 
 -- a step that writes nothing leaves the sink's count
-pub unwritten_sink : (does : Effects) → (MayCome does.writes_file ⊤ → ⊥) → (Other : Type 0) (m n : ℕ) (k : ErrorKind) (count : ℕ) → IsSourceCause does Other m n k → IsSinkCause count count k
+pub unwritten_sink : (does : Effects) → (MayCome does.writes_file ⊤ → ⊥)
+    → (Other : Type 0) (m n : ℕ) (k : ErrorKind) (count : ℕ) → IsSourceCause does Other m n k
+    → IsSinkCause count count k
 unwritten_sink does none Other m n refusal count h = refl
 unwritten_sink does none Other m n message_refusal count h = refl
 unwritten_sink does none Other m n front_refusal count h = refl

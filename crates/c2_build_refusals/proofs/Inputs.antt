@@ -1,4 +1,6 @@
 -- What the inputs of a build come to: one thing each, by what calls of other crates answered.
+use Rattle.c2_opening.proofs.TheLaws.{one_opening_file}
+use Rattle.c2_definition.proofs.TheLaws.{each_definition_is_read_one_way_one, each_definition_is_read_one_way_some}
 use Rattle.std.proofs.Common.{◌≡◌, ◌⊎◌, inl, inr, ℕ, Bool, List, length, refl, sym, ap, ◌∙◌, subst, ◌^◌, ◌<◌, All, cond, arith}
 use Rattle.std.specs.Prelude.{Result, Ok, Err}
 use Rattle.c2_spec.specs.C2pa.Sign1.{SignParts, SpellsMessage, message_list}
@@ -27,6 +29,8 @@ use Rattle.c2_new_signature.specs.declared.error.SignaturePart.TheVariants as pa
 use Rattle.c2_build_refusals.specs.declared.error.BuildError.TheVariants.{BadDefinition, BadSignature}
 use Rattle.c2_definition.specs.Json.{object_of}
 use Rattle.c2_spec.specs.Cbor.Fields.{require}
+use Rattle.c2_cbor_spec.proofs.PlainBack.{one_item}
+use Rattle.c2_spec.proofs.OneMessage.{same_parts}
 
 -- ---- what laws of other crates say
 
@@ -36,7 +40,8 @@ OneOpened = (file : List ℕ) (a b : Opening Tree) → IsOpened file a → IsOpe
 
 -- a file is one definition, or one thing of it is refused first
 abbrev pub OneDefinition : Type 0
-OneDefinition = (file : List ℕ) (r s : Result Definition DefinitionField) → IsDefinition file r → IsDefinition file s → r ≡ s
+OneDefinition =
+    (file : List ℕ) (r s : Result Definition DefinitionField) → IsDefinition file r → IsDefinition file s → r ≡ s
 
 -- bytes spell one item
 abbrev pub OneItem : Type 0
@@ -53,12 +58,14 @@ AreWellFormed = (file : List ℕ) (d : Definition) → IsDefinition file (Ok d) 
 -- ---- the media
 
 -- a media file is one thing to a build
-pub one_media : OneOpened → (media : List ℕ) → IsOne (IsMediaStage media)
-one_media one media r s h k = h.2 ∙ ap media_stage (one media h.0 k.0 h.1 k.1) ∙ sym k.2
+pub one_media : (media : List ℕ) → IsOne (IsMediaStage media)
+one_media media r s h k = h.2 ∙ ap media_stage (one_opening_file media h.0 k.0 h.1 k.1) ∙ sym k.2
 
 -- a media file that is refused isn't one that isn't
-pub not_both_media : OneOpened → (media : List ℕ) (kind : MediaKind) {P : Type 0} → IsMediaStage media (Ok kind) → IsMediaRefused media → P
-not_both_media one media kind {P} h refused = absurd (let bad = one_media one media (Ok kind) (Err refused.0) h refused.1 in cc (bad))
+pub not_both_media : (media : List ℕ) (kind : MediaKind) {P : Type 0} → IsMediaStage media (Ok kind)
+    → IsMediaRefused media → P
+not_both_media media kind {P} h refused =
+    absurd (let bad = one_media media (Ok kind) (Err refused.0) h refused.1 in cc (bad))
 
 -- one answer
 abbrev same_answer : MediaKind → MediaKind → Type 0
@@ -70,21 +77,24 @@ same_kind k l h = cc (h)
 
 -- ---- the definition
 
--- so is a definition file
-pub one_definition : OneDefinition → (file : List ℕ) → IsOne (IsDefinitionStage file)
-one_definition one file r s h k = h.2 ∙ ap definition_stage (one file h.0 k.0 h.1 k.1) ∙ sym k.2
+-- a definition file has one outcome
+pub one_definition : (file : List ℕ) → IsOne (IsDefinitionStage file)
+one_definition file r s h k =
+    h.2 ∙ ap definition_stage (each_definition_is_read_one_way_one file h.0 k.0 h.1 k.1) ∙ sym k.2
 
--- and so is a definition file
-pub not_both_definitions : OneDefinition → (file : List ℕ) (d : Definition) {P : Type 0} → IsDefinitionStage file (Ok d) → IsDefinitionRefused file → P
-not_both_definitions one file d {P} h refused = absurd (let bad = one_definition one file (Ok d) (Err refused.0) h refused.1 in cc (bad))
+-- a definition file isn't both read and refused
+pub not_both_definitions : (file : List ℕ) (d : Definition) {P : Type 0} → IsDefinitionStage file (Ok d)
+    → IsDefinitionRefused file → P
+not_both_definitions file d {P} h refused =
+    absurd (let bad = one_definition file (Ok d) (Err refused.0) h refused.1 in cc (bad))
 
 -- definitions that are read are one
 pub same_definition : (d e : Definition) → ◌≡◌ {A = Result Definition BuildError} (Ok d) (Ok e) → d ≡ e
 same_definition d e h = cc (h)
 
 -- each definition file comes to something
-pub some_definition : EachDefinition → (file : List ℕ) → Something (IsDefinitionStage file)
-some_definition law file = let d = law file in (definition_stage d.0, (d.0, d.1, refl))
+pub some_definition : (file : List ℕ) → Something (IsDefinitionStage file)
+some_definition file = let d = each_definition_is_read_one_way_some file in (definition_stage d.0, (d.0, d.1, refl))
 
 -- a definition that was read is well formed
 pub read_formed : AreWellFormed → (file : List ℕ) (d : Definition) → IsDefinitionStage file (Ok d) → IsWellFormed d
@@ -94,76 +104,83 @@ read_formed law file d h = by h.0 h.1 h.2
     by (Ok x) is e = let same : x ≡ d = cc (e) in subst IsWellFormed same (law file x is)
     by (Err f) is e = absurd (cc (e))
 
--- too long a file
-pub long_definition : EachDefinition → (file : List ℕ) → MAX_INPUT_LEN < length file → IsDefinitionStage file (Err (BadDefinition field.Size))
-long_definition law file long =
-    let d = law file in
-    let size : definition_in d.1.payloads file ≡ Err field.Size = ap (λ (b : Bool). cond b (Err field.Size) (require field.Json (object_of file) (definition_of d.1.payloads))) (lt-ltb MAX_INPUT_LEN (length file) long) in
+-- a definition file that is too long is refused for its size
+pub long_definition : (file : List ℕ) → MAX_INPUT_LEN < length file
+    → IsDefinitionStage file (Err (BadDefinition field.Size))
+long_definition file long =
+    let d = each_definition_is_read_one_way_some file in
+    let size : definition_in d.1.payloads file ≡ Err field.Size =
+    ap (λ (b : Bool). cond b (Err field.Size) (require field.Json (object_of file) (definition_of d.1.payloads)))
+    (lt-ltb MAX_INPUT_LEN (length file) long) in
     (Err field.Size, record { payloads = d.1.payloads; told = d.1.told; is = sym size }, refl)
 
 -- a definition that was read is the file
-pub is_read : EachDefinition → (file : List ℕ) (d : Definition) → ((r : Result Definition DefinitionField) → IsDefinition file r → Agrees r (Ok d)) → IsDefinition file (Ok d)
-is_read law file d agrees = let r = law file in subst (IsDefinition file) (agrees r.0 r.1) r.1
+pub is_read : (file : List ℕ) (d : Definition)
+    → ((r : Result Definition DefinitionField) → IsDefinition file r → Agrees r (Ok d)) → IsDefinition file (Ok d)
+is_read file d agrees = let r = each_definition_is_read_one_way_some file in subst (IsDefinition file) (agrees r.0 r.1) r.1
 
 -- what was refused of it is
-pub is_bad : EachDefinition → (file : List ℕ) (f : DefinitionField) (e : DefinitionError) → e ≡ error.BadDefinition f → ((r : Result Definition DefinitionField) → IsDefinition file r → Agrees r (Err e)) → IsDefinition file (Err f)
-is_bad law file f e is agrees =
-    let r = law file in
-    let told : Agrees r.0 (Err (error.BadDefinition f)) = subst (λ (x : DefinitionError). Agrees r.0 (Err x)) is (agrees r.0 r.1) in
+pub is_bad : (file : List ℕ) (f : DefinitionField) (e : DefinitionError) → e ≡ error.BadDefinition f
+    → ((r : Result Definition DefinitionField) → IsDefinition file r → Agrees r (Err e)) → IsDefinition file (Err f)
+is_bad file f e is agrees =
+    let r = each_definition_is_read_one_way_some file in
+    let told : Agrees r.0 (Err (error.BadDefinition f)) =
+    subst (λ (x : DefinitionError). Agrees r.0 (Err x)) is (agrees r.0 r.1) in
     subst (IsDefinition file) told r.1
 
 -- ---- the message
 
 -- parts of a message, written short
 abbrev parts : List ℕ → Item → List ℕ → SignParts
-parts protected unprotected signature = record { protected = protected; unprotected = unprotected; signature = signature }
-
--- equal lists of members have equal parts
-same_parts : (p q : SignParts) → message_list p ≡ message_list q → p ≡ q
-same_parts p q e =
-    let protected : p.protected ≡ q.protected = cc (e) in
-    let unprotected : p.unprotected ≡ q.unprotected = cc (e) in
-    let signature : p.signature ≡ q.signature = cc (e) in
-    ap (λ (x : List ℕ). parts x p.unprotected p.signature) protected ∙ ap (λ (x : Item). parts q.protected x p.signature) unprotected
-    ∙ ap (λ (x : List ℕ). parts q.protected q.unprotected x) signature
+parts protected unprotected signature =
+    record { protected = protected; unprotected = unprotected; signature = signature }
 
 -- an item is the message of one list of parts, with its tag or without
-same_form : (v : Item) (p q : SignParts) → (v ≡ message_list p) ⊎ (v ≡ tag 18 (message_list p)) → (v ≡ message_list q) ⊎ (v ≡ tag 18 (message_list q)) → p ≡ q
+same_form : (v : Item) (p q : SignParts) → (v ≡ message_list p) ⊎ (v ≡ tag 18 (message_list p))
+    → (v ≡ message_list q) ⊎ (v ≡ tag 18 (message_list q)) → p ≡ q
 same_form v p q (inl a) (inl b) = same_parts p q (sym a ∙ b)
 same_form v p q (inl a) (inr b) = absurd (let bad = sym a ∙ b in cc (bad))
 same_form v p q (inr a) (inl b) = absurd (let bad = sym a ∙ b in cc (bad))
 same_form v p q (inr a) (inr b) = same_parts p q (let both = sym a ∙ b in cc (both))
 
 -- bytes are one message
-pub same_message : OneItem → (s : List ℕ) (p q : SignParts) → SpellsMessage s p → SpellsMessage s q → p ≡ q
-same_message one s p q a b =
-    let item : b.message ≡ a.message = one b.message a.message s b.spelled a.spelled in
-    same_form a.message p q a.is.form (subst (λ (v : Item). (v ≡ message_list q) ⊎ (v ≡ tag 18 (message_list q))) item b.is.form)
+pub same_message : (s : List ℕ) (p q : SignParts) → SpellsMessage s p → SpellsMessage s q → p ≡ q
+same_message s p q a b =
+    let item : b.message ≡ a.message = one_item b.message a.message s b.spelled a.spelled in
+    same_form a.message p q a.is.form
+    (subst (λ (v : Item). (v ≡ message_list q) ⊎ (v ≡ tag 18 (message_list q))) item b.is.form)
 
 -- a message is read as one thing
-one_read : OneItem → RefusedForOne → (protected bytes : List ℕ) (m n : Result SignParts SignaturePart) → IsMessageRead protected bytes m → IsMessageRead protected bytes n → m ≡ n
-one_read one refused protected bytes (Ok p) (Ok q) h k = ap (λ (x : SignParts). Ok x) (same_message one bytes p q h.1 k.1)
-one_read one refused protected bytes (Ok p) (Err t) h k = absurd (refused.none protected bytes t k h.0)
-one_read one refused protected bytes (Err t) (Ok q) h k = absurd (refused.none protected bytes t h k.0)
-one_read one refused protected bytes (Err t) (Err u) h k = ap (λ (x : SignaturePart). Err x) (refused.one protected bytes t u h k)
+one_read : RefusedForOne → (protected bytes : List ℕ) (m n : Result SignParts SignaturePart)
+    → IsMessageRead protected bytes m → IsMessageRead protected bytes n → m ≡ n
+one_read refused protected bytes (Ok p) (Ok q) h k = ap (λ (x : SignParts). Ok x) (same_message bytes p q h.1 k.1)
+one_read refused protected bytes (Ok p) (Err t) h k = absurd (refused.none protected bytes t k h.0)
+one_read refused protected bytes (Err t) (Ok q) h k = absurd (refused.none protected bytes t h k.0)
+one_read refused protected bytes (Err t) (Err u) h k =
+    ap (λ (x : SignaturePart). Err x) (refused.one protected bytes t u h k)
 
--- and is one thing to a build
-pub one_message : OneItem → RefusedForOne → (protected bytes : List ℕ) → IsOne (IsMessageStage protected bytes)
-one_message one refused protected bytes r s h k = h.2 ∙ ap message_stage (one_read one refused protected bytes h.0 k.0 h.1 k.1) ∙ sym k.2
+-- a message has one outcome in a build
+pub one_message : RefusedForOne → (protected bytes : List ℕ) → IsOne (IsMessageStage protected bytes)
+one_message refused protected bytes r s h k =
+    h.2 ∙ ap message_stage (one_read refused protected bytes h.0 k.0 h.1 k.1) ∙ sym k.2
 
 -- a message that is refused isn't one that isn't
-pub not_both_messages : OneDefinition → OneItem → RefusedForOne → (definition message : List ℕ) (d : Definition) (p : SignParts) {P : Type 0}
-    → IsDefinitionStage definition (Ok d) → IsMessageStage d.protected message (Ok p) → IsMessageRefused definition message → P
-not_both_messages one item refusals definition message d p {P} is stage refused =
-    let same : refused.0 ≡ d = same_definition refused.0 d (one_definition one definition (Ok refused.0) (Ok d) refused.1 is) in
+pub not_both_messages : RefusedForOne → (definition message : List ℕ) (d : Definition) (p : SignParts) {P : Type 0}
+    → IsDefinitionStage definition (Ok d) → IsMessageStage d.protected message (Ok p)
+    → IsMessageRefused definition message → P
+not_both_messages refusals definition message d p {P} is stage refused =
+    let same : refused.0 ≡ d =
+    same_definition refused.0 d (one_definition definition (Ok refused.0) (Ok d) refused.1 is) in
     let bad = subst (λ (x : Definition). IsMessageStage x.protected message (Err refused.2.0)) same refused.2.1 in
-    absurd (let both = one_message item refusals d.protected message (Ok p) (Err refused.2.0) stage bad in cc (both))
+    absurd (let both = one_message refusals d.protected message (Ok p) (Err refused.2.0) stage bad in cc (both))
 
 -- each message comes to something
-pub some_message : RefusedForOne → (protected bytes : List ℕ) → All (λ b. b < 2 ^ 8) bytes → Something (IsMessageStage protected bytes)
+pub some_message : RefusedForOne → (protected bytes : List ℕ) → All (λ b. b < 2 ^ 8) bytes
+    → Something (IsMessageStage protected bytes)
 some_message law protected bytes are = by (law.either protected bytes are)
   where
-    by : IsAccepted protected bytes ⊎ ((test : SignaturePart) × IsRefused protected bytes test) → Something (IsMessageStage protected bytes)
+    by : IsAccepted protected bytes ⊎ ((test : SignaturePart) × IsRefused protected bytes test)
+        → Something (IsMessageStage protected bytes)
     by (inl a) = let form = a.1.0 in (Ok form.0, (Ok form.0, (a, form.1), refl))
     by (inr r) = (message_stage (Err r.0), (Err r.0, r.1, refl))
 
@@ -173,24 +190,33 @@ pub record IsTaken (protected bytes : List ℕ) (p : SignParts) : Type 0 where
   pub spelled : SpellsMessage bytes p
 
 -- a message that was passed was accepted
-pub read_taken : (protected bytes : List ℕ) (p : SignParts) → IsMessageStage protected bytes (Ok p) → IsTaken protected bytes p
+pub read_taken : (protected bytes : List ℕ) (p : SignParts) → IsMessageStage protected bytes (Ok p)
+    → IsTaken protected bytes p
 read_taken protected bytes p h = by h.0 h.1 h.2
   where
-    by : (m : Result SignParts SignaturePart) → IsMessageRead protected bytes m → Ok p ≡ message_stage m → IsTaken protected bytes p
+    by : (m : Result SignParts SignaturePart) → IsMessageRead protected bytes m → Ok p ≡ message_stage m
+        → IsTaken protected bytes p
     by (Ok q) is e = let same : q ≡ p = cc (e) in record { accepted = is.0; spelled = subst (SpellsMessage bytes) same is.1 }
     by (Err t) is e = absurd (cc (e))
 
--- too long a file
-pub long_message : (protected file : List ℕ) → MAX_INPUT_LEN < length file → IsMessageStage protected file (Err (BadSignature part.Size))
+-- a message that is too long is refused for its size
+pub long_message : (protected file : List ℕ) → MAX_INPUT_LEN < length file
+    → IsMessageStage protected file (Err (BadSignature part.Size))
 long_message protected file long = (Err part.Size, inl (refl, λ small. omega (arith, long, small)), refl)
 
 -- a message that was read, of these bytes
-pub taken_message : (protected bytes file : List ℕ) (p : SignParts) → bytes ≡ file → IsAccepted protected bytes → SpellsMessage bytes p → IsMessageStage protected file (Ok p)
-taken_message protected bytes file p same accepted spelled = subst (λ (s : List ℕ). IsMessageStage protected s (Ok p)) same (Ok p, (accepted, spelled), refl)
+pub taken_message : (protected bytes file : List ℕ) (p : SignParts) → bytes ≡ file → IsAccepted protected bytes
+    → SpellsMessage bytes p → IsMessageStage protected file (Ok p)
+taken_message protected bytes file p same accepted spelled =
+    subst (λ (s : List ℕ). IsMessageStage protected s (Ok p)) same (Ok p, (accepted, spelled), refl)
 
 -- one that was refused
-pub refused_message : (protected bytes file : List ℕ) (test : SignaturePart) (e : MessageError) → bytes ≡ file → e ≡ refusal.BadSignature test → RefusesMessage protected bytes e → IsMessageStage protected file (Err (BadSignature test))
-refused_message protected bytes file test e same is told = subst (λ (s : List ℕ). IsMessageStage protected s (Err (BadSignature test))) same (Err test, subst (RefusesMessage protected bytes) is told, refl)
+pub refused_message : (protected bytes file : List ℕ) (test : SignaturePart) (e : MessageError) → bytes ≡ file
+    → e ≡ refusal.BadSignature test → RefusesMessage protected bytes e
+    → IsMessageStage protected file (Err (BadSignature test))
+refused_message protected bytes file test e same is told =
+    subst (λ (s : List ℕ). IsMessageStage protected s (Err (BadSignature test))) same
+    (Err test, subst (RefusesMessage protected bytes) is told, refl)
 
 -- ---- inputs that are due
 
@@ -199,7 +225,7 @@ pub told_where_due : {P N : Type 0} → P ⊎ N → (N → P) → P
 told_where_due {P} (inl p) due = p
 told_where_due {P} (inr n) due = due n
 
--- or of one that isn't due for either of two reasons
+-- the bytes of a source are known that is due unless one of two reasons holds
 pub told_where_both : {P M N : Type 0} → P ⊎ (M ⊎ N) → (M → P) → (N → P) → P
 told_where_both {P} (inl p) first second = p
 told_where_both {P} (inr (inl m)) first second = first m

@@ -9,7 +9,8 @@ use Rattle.c2_spec.specs.declared.panel.Verdict.{Verdict}
 use Rattle.c2_rules.specs.Asking.{HasHeardSoFar, HearsPanel, IsJudgeCause, broken}
 use Rattle.c2_rules.proofs.AskingLemmas.{front_none, stays}
 use Rattle.c2_calls_spec.proofs.PanelLemmas.{asked_none, hears_error, hears_later, hears_nobody, hears_same}
-use Rattle.c2_build_refusals.specs.Kinds.{Effects, ErrorKind, IsOlderQuiet, IsOlderQuietKind, IsQuiet, IsQuietKind, IsReadKind, KindSays, WithoutFault, build_heard, front_refusal, heard_of, judge_fault, kind_of, message_refusal, no_memory, older_refusal, other_refusal, read_fault, refusal, write_fault}
+use Rattle.c2_build_refusals.specs.Kinds.{Effects, ErrorKind, IsOlderQuiet, IsOlderQuietKind, IsQuiet, IsQuietKind, IsReadKind, KindSays, WithoutFault, build_heard}
+use Rattle.c2_build_refusals.specs.Kinds.{front_refusal, heard_of, judge_fault, kind_of, message_refusal, no_memory, older_refusal, other_refusal, read_fault, refusal, write_fault}
 use Rattle.c2_build_refusals.specs.declared.error.BuildError.{BuildError}
 use Rattle.c2_build_refusals.proofs.Outside.{outside_all, quiet_older}
 
@@ -20,13 +21,13 @@ abbrev pub IsUnjudged : ErrorKind → Type 0
 IsUnjudged judge_fault = ⊥
 IsUnjudged k = ⊤
 
--- and where nothing is written either
+-- an error of this kind comes neither of a judge nor of a sink
 abbrev pub IsUnheard : ErrorKind → Type 0
 IsUnheard judge_fault = ⊥
 IsUnheard write_fault = ⊥
 IsUnheard k = ⊤
 
--- that of a step that reads
+-- an error of a step that reads comes neither of a judge nor of a sink
 pub read_unheard : (does : Effects) (m n : ℕ) (k : ErrorKind) → IsReadKind does m n k → IsUnheard k
 read_unheard does m n refusal h = tt
 read_unheard does m n message_refusal h = tt
@@ -38,7 +39,7 @@ read_unheard does m n judge_fault h = h
 read_unheard does m n write_fault h = h
 read_unheard does m n no_memory h = tt
 
--- and of one that doesn't
+-- an error of a step that doesn't read comes neither of a judge nor of a sink
 pub older_unheard : (k : ErrorKind) → IsOlderQuietKind k → IsUnheard k
 older_unheard refusal h = tt
 older_unheard message_refusal h = tt
@@ -66,7 +67,7 @@ unheard_unjudged judge_fault h = h
 unheard_unjudged write_fault h = tt
 unheard_unjudged no_memory h = tt
 
--- so it breaks off at none
+-- an error that comes of no judge breaks off at none
 unbroken : (k : ErrorKind) → IsUnjudged k → heard_of k ≢ broken
 unbroken refusal h = λ is. cc (is)
 unbroken message_refusal h = λ is. cc (is)
@@ -78,8 +79,9 @@ unbroken judge_fault h = absurd h
 unbroken write_fault h = λ is. cc (is)
 unbroken no_memory h = λ is. cc (is)
 
--- so does no result
-pub never_broken : {U : Type 0} (s : Result U BuildError) → IfErr s (λ e. IsUnjudged (kind_of e)) → IfErr s (λ e. build_heard e ≢ broken)
+-- a result whose errors come of no judge breaks off at none
+pub never_broken : {U : Type 0} (s : Result U BuildError) → IfErr s (λ e. IsUnjudged (kind_of e))
+    → IfErr s (λ e. build_heard e ≢ broken)
 never_broken (Ok y) q = tt
 never_broken (Err e) q = unbroken (kind_of e) q
 
@@ -87,8 +89,11 @@ never_broken (Err e) q = unbroken (kind_of e) q
 
 module _ {J : Type 0} {says : J → Question → Verdict} {times faults : J → ℕ} where
   -- nobody is asked, as is due where what is read is refused
-  pub hears_none : {T : Type 0} {Asks : (Question → Verdict) → List Question → Type 0} (v : Vec J Global) (e : BuildError) → IsUnheard (kind_of e)
-      → WithoutFault e ((qs : List Question) → Asks (panel_says (map says v.items)) qs → qs ≡ []) → HearsPanel {T = T} says times faults build_heard Asks v v (Err e)
+  pub hears_none :
+      {T : Type 0} {Asks : (Question → Verdict) → List Question → Type 0} (v : Vec J Global) (e : BuildError)
+      → IsUnheard (kind_of e)
+      → WithoutFault e ((qs : List Question) → Asks (panel_says (map says v.items)) qs → qs ≡ [])
+      → HearsPanel {T = T} says times faults build_heard Asks v v (Err e)
   hears_none {T} {Asks} v e quiet none = record {
     stays = stays {T = T} (judges_of says times faults v.items) (Err e);
     len = refl;
@@ -108,7 +113,8 @@ module _ {J : Type 0} {says : J → Question → Verdict} {times faults : J → 
       still write_fault h = absurd h
       still no_memory h = tt
 
-      heard : (qs : List Question) → Asks (panel_says (map says v.items)) qs → (k : ErrorKind) → IsUnheard k → KindSays k ((ps : List Question) → Asks (panel_says (map says v.items)) ps → ps ≡ [])
+      heard : (qs : List Question) → Asks (panel_says (map says v.items)) qs → (k : ErrorKind) → IsUnheard k
+          → KindSays k ((ps : List Question) → Asks (panel_says (map says v.items)) ps → ps ≡ [])
           → HasHeardSoFar (heard_of k) qs (judges_of says times faults v.items) (judges_of says times faults v.items)
       heard qs asks refusal h n = asked_none (map says v.items) qs (map times v.items) (n qs asks)
       heard qs asks message_refusal h n = asked_none (map says v.items) qs (map times v.items) (n qs asks)
@@ -120,40 +126,65 @@ module _ {J : Type 0} {says : J → Question → Verdict} {times faults : J → 
       heard qs asks write_fault h n = absurd h
       heard qs asks no_memory h n = front_none (map says v.items) qs (map times v.items)
 
-  -- nor by a step that neither reads nor asks, where nothing is due
-  pub hears_quiet : {T : Type 0} {Asks : (Question → Verdict) → List Question → Type 0} (v : Vec J Global) (r : Result T BuildError) → IfErr r IsQuiet
-      → ((qs : List Question) → Asks (panel_says (map says v.items)) qs → qs ≡ []) → HearsPanel says times faults build_heard Asks v v r
+  -- nobody is asked by a step that neither reads nor asks, where nothing is to be asked
+  pub hears_quiet :
+      {T : Type 0} {Asks : (Question → Verdict) → List Question → Type 0} (v : Vec J Global) (r : Result T BuildError)
+      → IfErr r IsQuiet
+      → ((qs : List Question) → Asks (panel_says (map says v.items)) qs → qs ≡ [])
+      → HearsPanel says times faults build_heard Asks v v r
   hears_quiet {T} {Asks} v (Ok x) quiet none = hears_nobody says times faults build_heard Asks v x none
   hears_quiet {T} {Asks} v (Err e) quiet none = hears_none v e (quiet_unheard (kind_of e) quiet) (outside_all e none)
 
   -- an error is handed up
-  pub hears_failed : {T U : Type 0} {Asks Below : (Question → Verdict) → List Question → Type 0} (old new : Vec J Global) (e : BuildError) → ((qs : List Question) → Asks (panel_says (map says old.items)) qs → Below (panel_says (map says old.items)) qs)
-      → HearsPanel {T = T} says times faults build_heard Below old new (Err e) → HearsPanel {T = U} says times faults build_heard Asks old new (Err e)
-  hears_failed {T} {U} {Asks} {Below} old new e among h = hears_error {T = T} {U = U} says times faults build_heard build_heard Asks Below old new e e refl among h
+  pub hears_failed :
+      {T U : Type 0} {Asks Below : (Question → Verdict) → List Question → Type 0} (old new : Vec J Global)
+      (e : BuildError)
+      → ((qs : List Question) → Asks (panel_says (map says old.items)) qs → Below (panel_says (map says old.items)) qs)
+      → HearsPanel {T = T} says times faults build_heard Below old new (Err e)
+      → HearsPanel {T = U} says times faults build_heard Asks old new (Err e)
+  hears_failed {T} {U} {Asks} {Below} old new e among h =
+      hears_error {T = T} {U = U} says times faults build_heard build_heard Asks Below old new e e refl among h
 
   -- all questions were asked, and then comes an answer by which no judge failed
-  pub hears_behind : {T U : Type 0} {Asks Below : (Question → Verdict) → List Question → Type 0} (old new : Vec J Global) (x : T) (r : Result U BuildError) → IfErr r (λ e. IsUnjudged (kind_of e))
-      → ((qs : List Question) → Asks (panel_says (map says old.items)) qs → Below (panel_says (map says old.items)) qs) → HearsPanel {T = T} says times faults build_heard Below old new (Ok x) → HearsPanel says times faults build_heard Asks old new r
-  hears_behind {T} {U} {Asks} {Below} old new x r quiet among h = hears_later {T = T} {U = U} says times faults build_heard build_heard Asks Below old new x r (never_broken r quiet) among h
+  pub hears_behind :
+      {T U : Type 0} {Asks Below : (Question → Verdict) → List Question → Type 0} (old new : Vec J Global) (x : T)
+      (r : Result U BuildError)
+      → IfErr r (λ e. IsUnjudged (kind_of e))
+      → ((qs : List Question) → Asks (panel_says (map says old.items)) qs → Below (panel_says (map says old.items)) qs)
+      → HearsPanel {T = T} says times faults build_heard Below old new (Ok x)
+      → HearsPanel says times faults build_heard Asks old new r
+  hears_behind {T} {U} {Asks} {Below} old new x r quiet among h =
+      hears_later {T = T} {U = U} says times faults build_heard build_heard Asks Below old new x r
+      (never_broken r quiet) among h
 
   -- a source told the same before
-  pub hears_told : {T : Type 0} (Asks : Option (List ℕ) → (Question → Verdict) → List Question → Type 0) (known now : Option (List ℕ)) (old new : Vec J Global) (r : Result T BuildError) → now ≡ known
-      → HearsPanel says times faults build_heard (Asks now) old new r → HearsPanel says times faults build_heard (Asks known) old new r
-  hears_told {T} Asks known now old new r same h = subst (λ (k : Option (List ℕ)). HearsPanel says times faults build_heard (Asks k) old new r) same h
+  pub hears_told :
+      {T : Type 0} (Asks : Option (List ℕ) → (Question → Verdict) → List Question → Type 0)
+      (known now : Option (List ℕ)) (old new : Vec J Global) (r : Result T BuildError)
+      → now ≡ known
+      → HearsPanel says times faults build_heard (Asks now) old new r
+      → HearsPanel says times faults build_heard (Asks known) old new r
+  hears_told {T} Asks known now old new r same h =
+      subst (λ (k : Option (List ℕ)). HearsPanel says times faults build_heard (Asks k) old new r) same h
 
   -- a call that asks what the one below does
-  pub hears_as : {T : Type 0} {Asks Below : (Question → Verdict) → List Question → Type 0} (old new : Vec J Global) (r : Result T BuildError) → ((qs : List Question) → Asks (panel_says (map says old.items)) qs → Below (panel_says (map says old.items)) qs)
-      → HearsPanel says times faults build_heard Below old new r → HearsPanel says times faults build_heard Asks old new r
+  pub hears_as :
+      {T : Type 0} {Asks Below : (Question → Verdict) → List Question → Type 0} (old new : Vec J Global)
+      (r : Result T BuildError)
+      → ((qs : List Question) → Asks (panel_says (map says old.items)) qs → Below (panel_says (map says old.items)) qs)
+      → HearsPanel says times faults build_heard Below old new r
+      → HearsPanel says times faults build_heard Asks old new r
   hears_as {T} {Asks} {Below} old new r among h = hears_same says times faults build_heard Asks Below old new r among h
 
 -- ---- results
 
 -- a step that reads breaks off at no judge
-pub read_result : {T : Type 0} (does : Effects) (m n : ℕ) (r : Result T BuildError) → IfErr r (λ e. IsReadKind does m n (kind_of e)) → IfErr r (λ e. IsUnjudged (kind_of e))
+pub read_result : {T : Type 0} (does : Effects) (m n : ℕ) (r : Result T BuildError)
+    → IfErr r (λ e. IsReadKind does m n (kind_of e)) → IfErr r (λ e. IsUnjudged (kind_of e))
 read_result does m n (Ok x) h = tt
 read_result does m n (Err e) h = unheard_unjudged (kind_of e) (read_unheard does m n (kind_of e) h)
 
--- nor does one that doesn't
+-- a step that doesn't read breaks off at no judge
 pub older_result : {T : Type 0} (r : Result T BuildError) → IfErr r IsOlderQuiet → IfErr r (λ e. IsUnjudged (kind_of e))
 older_result (Ok x) h = tt
 older_result (Err e) h = unheard_unjudged (kind_of e) (older_unheard (kind_of e) h)

@@ -1,9 +1,10 @@
-pub mod Outside
-pub mod Media
 pub mod Doing
-pub mod Stages
 pub mod FirstRefusal
 pub mod Inputs
-pub mod Passing
 pub mod Judged
+pub mod Media
+pub mod Outside
+pub mod Passing
 mod Seen
+pub mod Stages
+pub mod TheLaws

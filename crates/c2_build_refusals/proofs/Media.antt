@@ -2,11 +2,11 @@
 use Rattle.std.proofs.Common.{ℕ}
 use Rattle.c2_base.specs.declared.media.MediaError.{MediaError}
 use Rattle.c2_base.specs.declared.media.MediaError.TheVariants as media
-use Rattle.c2_bmff_boxes.specs.Causes.{IsCaused, OrOutside}
+use Rattle.c2_bmff_boxes.specs.Causes.{IsBmffCaused, OrBmffFault}
 use Rattle.c2_build_refusals.specs.Kinds.{WithoutFault, kind_of, IsReadKind, Effects, media_error_of}
 
--- it says what is claimed beside a fault
-pub media_said : (claim : Type 0) (e : MediaError) → OrOutside e claim → WithoutFault (media_error_of e) claim
+-- the error of a build that a walk's error becomes says what is claimed beside a fault
+pub media_said : (claim : Type 0) (e : MediaError) → OrBmffFault e claim → WithoutFault (media_error_of e) claim
 media_said claim media.NotMedia h = h
 media_said claim (media.FileTooLarge n) h = h
 media_said claim (media.Truncated n) h = h
@@ -21,8 +21,9 @@ media_said claim media.TooManyBoxes h = h
 media_said claim media.ReadFault h = tt
 media_said claim media.NoMemory h = tt
 
--- and has the same cause
-pub media_caused : (does : Effects) (before now : ℕ) (e : MediaError) → IsCaused before now e → IsReadKind does before now (kind_of (media_error_of e))
+-- the error of a build that a container's error becomes has its cause
+pub media_caused : (does : Effects) (before now : ℕ) (e : MediaError) → IsBmffCaused before now e
+    → IsReadKind does before now (kind_of (media_error_of e))
 media_caused does before now media.NotMedia h = h
 media_caused does before now (media.FileTooLarge n) h = h
 media_caused does before now (media.Truncated n) h = h

@@ -6,7 +6,8 @@ use Rattle.c2_base.specs.Source.{ReadsSource, StaysSource}
 use Rattle.c2_calls_spec.proofs.SourceLemmas.{reads_next}
 use Rattle.c2_opening.specs.declared.error.ValidateError.{ValidateError}
 use Rattle.c2_opening.specs.declared.error.ValidateError.TheVariants as error
-use Rattle.c2_build_refusals.specs.Kinds.{Effects, ErrorKind, IsOlderQuiet, IsOlderQuietKind, IsQuiet, IsQuietKind, IsReadKind, IsSourceCause, KindSays, MayCome, SaysNothing, WithoutFault, fault_of, front_refusal, judge_fault, kind_of, message_refusal, no_effects, no_memory, older_refusal, other_refusal, read_fault, refusal, write_fault}
+use Rattle.c2_build_refusals.specs.Kinds.{Effects, ErrorKind, IsOlderQuiet, IsOlderQuietKind, IsQuiet, IsQuietKind, IsReadKind, IsSourceCause, KindSays, MayCome, SaysNothing, WithoutFault}
+use Rattle.c2_build_refusals.specs.Kinds.{fault_of, front_refusal, judge_fault, kind_of, message_refusal, no_effects, no_memory, older_refusal, other_refusal, read_fault, refusal, write_fault}
 use Rattle.c2_build_refusals.specs.declared.error.BuildError.{BuildError}
 
 -- ---- what an error says
@@ -43,7 +44,7 @@ kind_all judge_fault h = tt
 kind_all write_fault h = tt
 kind_all no_memory h = tt
 
--- and of each error
+-- what holds holds beside each error
 pub outside_all : (e : BuildError) {P : Type 0} → P → WithoutFault e P
 outside_all e {P} h = kind_all (kind_of e) {P = P} h
 
@@ -60,7 +61,8 @@ kind_each write_fault P h = tt
 kind_each no_memory P h = tt
 
 -- what an error says of each thing
-pub said_each : (e : BuildError) {A : Type 0} (P : A → Type 0) → ((x : A) → WithoutFault e (P x)) → WithoutFault e ((x : A) → P x)
+pub said_each : (e : BuildError) {A : Type 0} (P : A → Type 0) → ((x : A) → WithoutFault e (P x))
+    → WithoutFault e ((x : A) → P x)
 said_each e {A} P h = kind_each (kind_of e) {A = A} P h
 
 -- a fault of the check says nothing of the inputs
@@ -77,7 +79,8 @@ may_come true P Q f h = f h
 may_come false P Q f h = h
 
 -- a step that reads is one that may ask judges
-pub read_cause : (Other : Type 0) (does : Effects) (m n : ℕ) (k : ErrorKind) → IsReadKind does m n k → IsSourceCause does Other m n k
+pub read_cause : (Other : Type 0) (does : Effects) (m n : ℕ) (k : ErrorKind) → IsReadKind does m n k
+    → IsSourceCause does Other m n k
 read_cause Other does m n refusal h = h
 read_cause Other does m n message_refusal h = h
 read_cause Other does m n front_refusal h = h
@@ -88,8 +91,9 @@ read_cause Other does m n judge_fault h = absurd h
 read_cause Other does m n write_fault h = absurd h
 read_cause Other does m n no_memory h = tt
 
--- so is one that neither reads nor asks
-pub quiet_cause : (Other : Type 0) (does : Effects) (m n : ℕ) (k : ErrorKind) → n ≡ m → IsQuietKind k → IsSourceCause does Other m n k
+-- a step that neither reads nor asks is one that may ask judges
+pub quiet_cause : (Other : Type 0) (does : Effects) (m n : ℕ) (k : ErrorKind) → n ≡ m → IsQuietKind k
+    → IsSourceCause does Other m n k
 quiet_cause Other does m n refusal same h = same
 quiet_cause Other does m n message_refusal same h = absurd h
 quiet_cause Other does m n front_refusal same h = absurd h
@@ -100,12 +104,13 @@ quiet_cause Other does m n judge_fault same h = absurd h
 quiet_cause Other does m n write_fault same h = absurd h
 quiet_cause Other does m n no_memory same h = tt
 
--- the same of its result
-pub quiet_results : {T : Type 0} (Other : Type 0) (does : Effects) (m n : ℕ) (r : Result T BuildError) → n ≡ m → IfErr r IsQuiet → IfErr r (λ e. IsSourceCause does Other m n (kind_of e))
+-- the result of a step that neither reads nor asks is one of each call
+pub quiet_results : {T : Type 0} (Other : Type 0) (does : Effects) (m n : ℕ) (r : Result T BuildError) → n ≡ m
+    → IfErr r IsQuiet → IfErr r (λ e. IsSourceCause does Other m n (kind_of e))
 quiet_results Other does m n (Ok x) same h = tt
 quiet_results Other does m n (Err e) same h = quiet_cause Other does m n (kind_of e) same h
 
--- a step that neither reads nor asks is one over an older store too
+-- a step that neither reads nor asks is one over an older store
 pub quiet_older : (k : ErrorKind) → IsQuietKind k → IsOlderQuietKind k
 quiet_older refusal h = h
 quiet_older message_refusal h = h
@@ -117,8 +122,9 @@ quiet_older judge_fault h = h
 quiet_older write_fault h = h
 quiet_older no_memory h = h
 
--- such a step is one that may ask judges, of a call that builds over an older store
-pub older_cause : (Other : Type 0) (does : Effects) (m n : ℕ) (k : ErrorKind) → MayCome does.takes_older ⊤ → n ≡ m → IsOlderQuietKind k → IsSourceCause does Other m n k
+-- a step that neither reads nor asks, of a call that builds over an older store, is one that may ask judges
+pub older_cause : (Other : Type 0) (does : Effects) (m n : ℕ) (k : ErrorKind) → MayCome does.takes_older ⊤ → n ≡ m
+    → IsOlderQuietKind k → IsSourceCause does Other m n k
 older_cause Other does m n refusal may same h = same
 older_cause Other does m n message_refusal may same h = absurd h
 older_cause Other does m n front_refusal may same h = absurd h
@@ -129,13 +135,17 @@ older_cause Other does m n judge_fault may same h = absurd h
 older_cause Other does m n write_fault may same h = absurd h
 older_cause Other does m n no_memory may same h = tt
 
--- the same of its result
-pub older_results : {T : Type 0} (Other : Type 0) (does : Effects) (m n : ℕ) (r : Result T BuildError) → MayCome does.takes_older ⊤ → n ≡ m → IfErr r IsOlderQuiet → IfErr r (λ e. IsSourceCause does Other m n (kind_of e))
+-- the result of a step that neither reads nor asks, of a call that builds over an older store, is one of the call
+pub older_results : {T : Type 0} (Other : Type 0) (does : Effects) (m n : ℕ) (r : Result T BuildError)
+    → MayCome does.takes_older ⊤ → n ≡ m → IfErr r IsOlderQuiet
+    → IfErr r (λ e. IsSourceCause does Other m n (kind_of e))
 older_results Other does m n (Ok x) may same h = tt
 older_results Other does m n (Err e) may same h = older_cause Other does m n (kind_of e) may same h
 
--- and of that of a step that reads
-pub read_results : {T : Type 0} (Other : Type 0) (reads does : Effects) (m n : ℕ) (r : Result T BuildError) → ((k : ErrorKind) → IsReadKind reads m n k → IsReadKind does m n k) → IfErr r (λ e. IsReadKind reads m n (kind_of e))
+-- the result of a step that reads is one of a call that does what the step does
+pub read_results : {T : Type 0} (Other : Type 0) (reads does : Effects) (m n : ℕ) (r : Result T BuildError)
+    → ((k : ErrorKind) → IsReadKind reads m n k → IsReadKind does m n k)
+    → IfErr r (λ e. IsReadKind reads m n (kind_of e))
     → IfErr r (λ e. IsSourceCause does Other m n (kind_of e))
 read_results Other reads does m n (Ok x) f h = tt
 read_results Other reads does m n (Err e) f h = read_cause Other does m n (kind_of e) (f (kind_of e) h)
@@ -152,12 +162,14 @@ plain_read does m n judge_fault h = h
 plain_read does m n write_fault h = h
 plain_read does m n no_memory h = h
 
--- so it is where it says of its cause
-pub plain_cause : (Other : Type 0) (does : Effects) (m n : ℕ) (k : ErrorKind) → IsReadKind no_effects m n k → IsSourceCause does Other m n k
+-- the cause of an error of a step that does no more than read is one of any call
+pub plain_cause : (Other : Type 0) (does : Effects) (m n : ℕ) (k : ErrorKind) → IsReadKind no_effects m n k
+    → IsSourceCause does Other m n k
 plain_cause Other does m n k h = read_cause Other does m n k (plain_read does m n k h)
 
 -- where a source failed beside others
-pub among_sources : (does : Effects) {Other Others : Type 0} (m n : ℕ) (k : ErrorKind) → (Other → Others) → IsSourceCause does Other m n k → IsSourceCause does Others m n k
+pub among_sources : (does : Effects) {Other Others : Type 0} (m n : ℕ) (k : ErrorKind) → (Other → Others)
+    → IsSourceCause does Other m n k → IsSourceCause does Others m n k
 among_sources does m n refusal f h = h
 among_sources does m n message_refusal f h = h
 among_sources does m n front_refusal f h = h
@@ -170,7 +182,8 @@ among_sources does m n write_fault f h = h
 among_sources does m n no_memory f h = h
 
 -- what that says of a source beside it that wasn't read
-pub beside_source : (does : Effects) {Other Others : Type 0} (l m n : ℕ) (k : ErrorKind) → (Rose m n ⊎ Other → Others) → IsSourceCause does Other m n k → IsSourceCause does Others l l k
+pub beside_source : (does : Effects) {Other Others : Type 0} (l m n : ℕ) (k : ErrorKind) → (Rose m n ⊎ Other → Others)
+    → IsSourceCause does Other m n k → IsSourceCause does Others l l k
 beside_source does l m n refusal f h = refl
 beside_source does l m n message_refusal f h = may_come does.reads_message (n ≡ m) (l ≡ l) (λ x. refl) h
 beside_source does l m n front_refusal f h = may_come does.moves_tables (n ≡ m) (l ≡ l) (λ x. refl) h
@@ -190,15 +203,19 @@ on_any (Err e) h = tt
 
 -- a step that does no more than read, behind one that succeeded
 pub reads_behind : {S T U : Type 0} (does : Effects) {Other : Type 0} {len : S → ℕ} {known : S → Option (List ℕ)} {faults : S → ℕ} {Below : ℕ → ℕ → BuildError → Type 0} (old between new : S) (x : T) (r : Result U BuildError)
-    → ReadsSource len known faults Below old between (Ok x) → StaysSource len known faults between new → OnOk r (faults new ≡ faults between) → IfErr r (λ e. IsReadKind no_effects (faults between) (faults new) (kind_of e))
+    → ReadsSource len known faults Below old between (Ok x) → StaysSource len known faults between new
+    → OnOk r (faults new ≡ faults between)
+    → IfErr r (λ e. IsReadKind no_effects (faults between) (faults new) (kind_of e))
     → ReadsSource len known faults (λ m n e. IsSourceCause does Other m n (kind_of e)) old new r
 reads_behind does {Other} {len} {known} {faults} {Below} old between new x r h stays quiet cause =
     reads_next len known faults Below (λ m n e. IsSourceCause does Other m n (kind_of e)) old between new x r h
     (record { stays = stays; quiet = quiet; cause = read_results Other no_effects does (faults between) (faults new) r (plain_read does (faults between) (faults new)) cause })
 
 -- an answer of a step that neither reads nor asks, behind two that succeeded, of a call that builds over an older store
-pub reads_quietly : {S T U : Type 0} (does : Effects) {Other : Type 0} → MayCome does.takes_older ⊤ → {len : S → ℕ} {known : S → Option (List ℕ)} {faults : S → ℕ} {Below : ℕ → ℕ → BuildError → Type 0} (old between new : S) (x : T) (r : Result U BuildError)
-    → ReadsSource len known faults Below old between (Ok x) → StaysSource len known faults between new → faults new ≡ faults between → IfErr r IsOlderQuiet
+pub reads_quietly : {S T U : Type 0} (does : Effects) {Other : Type 0} → MayCome does.takes_older ⊤
+    → {len : S → ℕ} {known : S → Option (List ℕ)} {faults : S → ℕ} {Below : ℕ → ℕ → BuildError → Type 0} (old between new : S) (x : T) (r : Result U BuildError)
+    → ReadsSource len known faults Below old between (Ok x) → StaysSource len known faults between new
+    → faults new ≡ faults between → IfErr r IsOlderQuiet
     → ReadsSource len known faults (λ m n e. IsSourceCause does Other m n (kind_of e)) old new r
 reads_quietly does {Other} may {len} {known} {faults} {Below} old between new x r h stays quiet cause =
     reads_next len known faults Below (λ m n e. IsSourceCause does Other m n (kind_of e)) old between new x r h
@@ -206,20 +223,28 @@ reads_quietly does {Other} may {len} {known} {faults} {Below} old between new x 
 
 -- a source that was read before, or not at all, where another one is read
 pub reads_earlier : {S T : Type 0} (does : Effects) {Other Others : Type 0} {len : S → ℕ} {known : S → Option (List ℕ)} {faults : S → ℕ} (old new : S) (m n : ℕ) (r : Result T BuildError)
-    → StaysSource len known faults old new → faults new ≡ faults old → (Rose m n ⊎ Other → Others) → IfErr r (λ e. IsSourceCause does Other m n (kind_of e))
+    → StaysSource len known faults old new → faults new ≡ faults old → (Rose m n ⊎ Other → Others)
+    → IfErr r (λ e. IsSourceCause does Other m n (kind_of e))
     → ReadsSource len known faults (λ i j e. IsSourceCause does Others i j (kind_of e)) old new r
 reads_earlier does old new m n (Ok x) stays quiet f cause = record { stays = stays; quiet = quiet; cause = tt }
 reads_earlier does {Other} {Others} {len} {known} {faults} old new m n (Err e) stays quiet f cause = record {
   stays = stays;
   quiet = tt;
-  cause = subst (λ (j : ℕ). IsSourceCause does Others (faults old) j (kind_of e)) (sym quiet) (beside_source does (faults old) m n (kind_of e) f cause);
+  cause =
+      subst (λ (j : ℕ). IsSourceCause does Others (faults old) j (kind_of e)) (sym quiet)
+      (beside_source does (faults old) m n (kind_of e) f cause);
 }
 
 -- one that is read, where others are
-pub reads_among : {S T : Type 0} (does : Effects) {Other Others : Type 0} {len : S → ℕ} {known : S → Option (List ℕ)} {faults : S → ℕ} (old new : S) (r : Result T BuildError) → (Other → Others)
-    → ReadsSource len known faults (λ i j e. IsSourceCause does Other i j (kind_of e)) old new r → ReadsSource len known faults (λ i j e. IsSourceCause does Others i j (kind_of e)) old new r
+pub reads_among :
+    {S T : Type 0} (does : Effects) {Other Others : Type 0} {len : S → ℕ} {known : S → Option (List ℕ)} {faults : S → ℕ}
+    (old new : S) (r : Result T BuildError)
+    → (Other → Others)
+    → ReadsSource len known faults (λ i j e. IsSourceCause does Other i j (kind_of e)) old new r
+    → ReadsSource len known faults (λ i j e. IsSourceCause does Others i j (kind_of e)) old new r
 reads_among does old new (Ok x) f h = record { stays = h.stays; quiet = h.quiet; cause = tt }
-reads_among does {Other} {Others} {len} {known} {faults} old new (Err e) f h = record { stays = h.stays; quiet = tt; cause = among_sources does (faults old) (faults new) (kind_of e) f h.cause }
+reads_among does {Other} {Others} {len} {known} {faults} old new (Err e) f h =
+    record { stays = h.stays; quiet = tt; cause = among_sources does (faults old) (faults new) (kind_of e) f h.cause }
 
 -- no other source failed
 pub alone : {A B : Type 0} → (A → B) → A ⊎ ⊥ → B

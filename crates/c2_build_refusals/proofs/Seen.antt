@@ -9,7 +9,8 @@ abbrev pub AllFrom : {A : Type 0} → (A → Type 0) → List A → ℕ → Type
 AllFrom P list i = AllByRecursion P (drop i list) → AllByRecursion P list
 
 -- one more was seen
-pub one_more : {A : Type 0} (P : A → Type 0) (list : List A) (i : ℕ) (a : A) → i < length list → a ≡ get_or list i a → AllFrom P list i → P a → AllFrom P list (i + 1)
+pub one_more : {A : Type 0} (P : A → Type 0) (list : List A) (i : ℕ) (a : A) → i < length list → a ≡ get_or list i a
+    → AllFrom P list i → P a → AllFrom P list (i + 1)
 one_more P list i a lt at so_far has =
     let here = drop_more list i a lt ∙ ap (λ b. b ∷ drop (i + 1) list) (sym at) in
     λ rest. so_far (subst (AllByRecursion P) (sym here) (has, rest))

@@ -1,17 +1,10 @@
 -- A place for a new store, as it is found in a file: the segments of a JPEG file aren't kept, the root boxes of a BMFF file are, as rows.
-use Rattle.std.specs.Prelude.{◌≡◌, ℕ, ◌≤◌, true, false, List}
-use Rattle.c2_spec.specs.Container.{is_bmff}
+use Rattle.std.specs.Prelude.{◌≡◌, ℕ, ◌≤◌}
 use Rattle.c2_spec.specs.Jpeg.Writing as jpeg
 use Rattle.c2_bmff_rows.specs.Rows.{rows_of}
 use Rattle.c2_bmff_boxes.specs.Roots.{FillSource}
 use Rattle.c2_new_file_spec.specs.Places.{Place, in_boxes, in_segments}
-use Rattle.c2_build_refusals.specs.declared.types.FileForm.{FileForm}
 use Rattle.c2_build_refusals.specs.declared.types.InsertPoint.{InsertPoint}
-
--- a file has this form
-abbrev pub IsForm : List ℕ → FileForm → Type 0
-IsForm file FileForm.Jpeg = is_bmff file ≡ false
-IsForm file FileForm.Bmff = is_bmff file ≡ true
 
 -- this is a place as it was found
 abbrev pub IsInsertPoint : InsertPoint → Place → Type 0

@@ -11,7 +11,8 @@ use Rattle.c2_rules.specs.Asking.{Heard, all, broken, part}
 use Rattle.c2_opening.specs.declared.error.ValidateError.{ValidateError}
 use Rattle.c2_opening.specs.declared.error.ValidateError.TheVariants as error
 use Rattle.c2_build_refusals.specs.declared.error.BuildError.{BuildError}
-use Rattle.c2_build_refusals.specs.declared.error.BuildError.TheVariants.{MediaRefused, BadSignature, NotBmff, HasStore, ParentFails, OtherRefused, LabelClash, LabelTaken, NoInstance, OffsetTable, BadTree, BadTable, TooManyManifests, Overflow, ReserveTooSmall, ReadFault, JudgeFault, WriteFault, NoMemory}
+use Rattle.c2_build_refusals.specs.declared.error.BuildError.TheVariants.{MediaRefused, BadSignature, NotBmff, HasStore, ParentFails, OtherRefused, LabelClash, LabelTaken, NoInstance}
+use Rattle.c2_build_refusals.specs.declared.error.BuildError.TheVariants.{OffsetTable, BadTree, BadTable, TooManyManifests, Overflow, ReserveTooSmall, ReadFault, JudgeFault, WriteFault, NoMemory}
 
 -- ---- kinds
 
@@ -70,9 +71,9 @@ abbrev pub SaysNothing : BuildError → Type 0
 SaysNothing e = WithoutFault e ⊥
 
 -- a result is what the inputs come to, unless it says nothing of them
-abbrev pub ComesTo : {A : Type 0} → (Result A BuildError → Type 0) → Result A BuildError → Type 0
-ComesTo Is (Ok a) = Is (Ok a)
-ComesTo Is (Err e) = WithoutFault e (Is (Err e))
+abbrev pub HasOutcome : {A : Type 0} → (Result A BuildError → Type 0) → Result A BuildError → Type 0
+HasOutcome Is (Ok a) = Is (Ok a)
+HasOutcome Is (Err e) = WithoutFault e (Is (Err e))
 
 -- a result is what the inputs come to, seen so, unless it says nothing of them
 abbrev pub ComesAs : {A B : Type 0} → (B → A → Type 0) → (Result A BuildError → Type 0) → Result B BuildError → Type 0
@@ -83,34 +84,34 @@ ComesAs Fits Is (Err e) = WithoutFault e (Is (Err e))
 
 -- What a call or a step does besides reading the media and the definition. Some errors come only of one that does this.
 pub record Effects : Type 0 where
-  -- it looks at a signed message
+  -- the call looks at a signed message
   pub reads_message : Bool
-  -- it asks judges
+  -- the call asks judges
   pub asks_judges : Bool
-  -- it writes a file
+  -- the call writes a file
   pub writes_file : Bool
-  -- it moves the chunk tables of a file that gets its store at the front
+  -- the call moves the chunk tables of a file that gets its store at the front
   pub moves_tables : Bool
-  -- it builds over an older store, or into a JPEG file
+  -- the call builds over an older store, or into a JPEG file
   pub takes_older : Bool
-  -- it takes another file, which is collected
+  -- the call takes another file, which is collected
   pub takes_other : Bool
 
--- it does nothing else
+-- a call that only reads the media and the definition
 abbrev pub no_effects : Effects
 no_effects = record { reads_message = false; asks_judges = false; writes_file = false; moves_tables = false; takes_older = false; takes_other = false }
 
--- it looks at a signed message
+-- a call that looks at a signed message besides the media and the definition
 abbrev pub message_effects : Effects
 message_effects = record no_effects { reads_message = true }
 
--- it asks judges of an older store, over which it builds
+-- a call that asks judges of an older store, over which it builds
 abbrev pub judge_effects : Effects
 judge_effects = record no_effects { asks_judges = true; takes_older = true }
 
 -- ---- sources
 
--- this is said where such an error may come
+-- a claim that is made where an error may come; where it may not, the error doesn't come
 abbrev pub MayCome : Bool → Type 0 → Type 0
 MayCome true claim = claim
 MayCome false claim = ⊥
@@ -158,16 +159,16 @@ IsQuietKind refusal = ⊤
 IsQuietKind no_memory = ⊤
 IsQuietKind k = ⊥
 
--- the error of such a step
+-- the error of a step that reads nothing and writes nothing, and looks at no signed message
 abbrev pub IsQuiet : BuildError → Type 0
 IsQuiet e = IsQuietKind (kind_of e)
 
--- the kind of an error of such a step of a call that builds over an older store, or into a JPEG file
+-- the kind of an error of a step that reads and writes nothing, of a call that builds over an older store, or into a JPEG file
 abbrev pub IsOlderQuietKind : ErrorKind → Type 0
 IsOlderQuietKind older_refusal = ⊤
 IsOlderQuietKind k = IsQuietKind k
 
--- its error
+-- the error of a step that reads and writes nothing, of a call that builds over an older store, or into a JPEG file
 abbrev pub IsOlderQuiet : BuildError → Type 0
 IsOlderQuiet e = IsOlderQuietKind (kind_of e)
 

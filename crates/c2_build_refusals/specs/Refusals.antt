@@ -13,9 +13,9 @@ use Rattle.c2_rules.specs.Readings.{Reading}
 use Rattle.c2_rules.specs.declared.answer.Failing.{Failing}
 use Rattle.c2_definition.specs.declared.types.Definition.{Definition}
 use Rattle.c2_new_signature.specs.Refusals.{reserve_needed}
-use Rattle.c2_new_store_spec.specs.Store.{Content}
-use Rattle.c2_parent_spec.specs.Refusing.{has_manifest, redaction_refusal}
-use Rattle.c2_parent_spec.specs.declared.refused.RefusedRedaction.{RefusedRedaction}
+use Rattle.c2_new_file_spec.specs.Store.{Content}
+use Rattle.c2_new_file_spec.specs.Refusing.{has_manifest, redaction_refusal}
+use Rattle.c2_new_file_spec.specs.declared.refused.RefusedRedaction.{RefusedRedaction}
 use Rattle.c2_new_file_spec.specs.Places.{Place, in_boxes, in_segments, range_len, store_len}
 use Rattle.c2_build_refusals.specs.declared.error.BuildError.{BuildError}
 use Rattle.c2_build_refusals.specs.declared.error.BuildError.TheVariants.{MediaRefused, ParentFails, LabelTaken, RedactionRefused, OpenBox, NoInstance, TooManyManifests, StoreTooLarge, ReserveTooSmall}
@@ -108,8 +108,8 @@ box_tests (in_segments segments number) = []
 box_tests (in_boxes roots) =
     refuse_if (nat_le MAX_ROOT_BOXES (length roots)) (MediaRefused TooManyBoxes MAX_ROOT_BOXES) ∷ []
 
--- by numbers that are known before anything is digested, where the base has so many bytes: whether a store can be put in at the place,
--- how many manifests the new store has, its length, the file's, and how many root boxes that has
+-- the tests by numbers that are known before anything is digested, where the base has so many bytes: whether a store can be put in at the
+-- place, how many manifests the new store has, its length, the file's, and how many root boxes that has
 abbrev pub number_tests : ℕ → ℕ → Content → Place → List BuildTest
 number_tests size manifests c p =
     place_tests p
@@ -118,7 +118,7 @@ number_tests size manifests c p =
     ∷ refuse_if (nat_le FILE_LEN_LIMIT (size + new_range_len p c)) (MediaRefused FileTooLarge (size + new_range_len p c))
     ∷ box_tests p)
 
--- those of a new file over this
+-- the tests of a new file over this ground by numbers that are known before anything is digested
 abbrev pub ground_tests : Ground → Place → List BuildTest
 ground_tests g p = number_tests (length g.base) g.manifests g.content p
 
@@ -132,6 +132,6 @@ reserve_tests d p =
 abbrev pub IsReserveRefusal : Definition → SignParts → BuildError → Type 0
 IsReserveRefusal d p e = (n : ℕ) × (reserve_needed d.reserve (length (bare_bytes p)) ≡ Some n) × (e ≡ ReserveTooSmall n)
 
--- all tests at the place, where a message has these parts
+-- all tests of a new file over this ground at the place, where a message has these parts
 abbrev pub late_tests : Ground → SignParts → Place → List BuildTest
 late_tests g parts p = ground_tests g p ++ reserve_tests g.content.definition parts

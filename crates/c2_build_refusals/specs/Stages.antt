@@ -23,10 +23,10 @@ use Rattle.c2_definition.specs.declared.types.Definition.{Definition}
 use Rattle.c2_definition.specs.declared.types.DefinitionField.{DefinitionField}
 use Rattle.c2_new_signature.specs.Message.{IsAccepted, IsRefused}
 use Rattle.c2_new_signature.specs.declared.error.SignaturePart.{SignaturePart}
-use Rattle.c2_new_store_spec.specs.Store.{Content}
-use Rattle.c2_new_store_spec.specs.Fresh.{fresh_content}
-use Rattle.c2_new_store_spec.specs.Written.{HasTexts}
-use Rattle.c2_parent_spec.specs.Parents.{IsContentOver}
+use Rattle.c2_new_file_spec.specs.Store.{Content}
+use Rattle.c2_new_file_spec.specs.Fresh.{fresh_content}
+use Rattle.c2_new_file_spec.specs.Written.{HasTexts}
+use Rattle.c2_new_file_spec.specs.Parents.{IsContentOver}
 use Rattle.c2_new_file_spec.specs.Bases.{IsLeft}
 use Rattle.c2_new_file_spec.specs.Places.{IsPlace, Place}
 use Rattle.c2_build_refusals.specs.Refusals.{Ground, first_refusal, older_tests, redaction_tests}

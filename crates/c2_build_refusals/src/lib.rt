@@ -17,4 +17,4 @@ pub use error::{BuildError, fault, media_error};
 pub use laws::the_first_refusal_is_the_least;
 pub use reading::{read_definition_file, read_message_file};
 pub use signing::{padded, signed_over};
-pub use types::{BuildBase, Draft, Drafted, Embedded, FileForm, InsertPoint, Put};
+pub use types::{BuildBase, Draft, Drafted, Embedded, InsertPoint, Put};

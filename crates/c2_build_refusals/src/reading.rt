@@ -6,17 +6,14 @@ ghost use Rattle.c2_spec.specs.C2pa.Message.{CanBePadded};
 ghost use Rattle.c2_spec.specs.C2pa.Sign1.{parts_of};
 ghost use Rattle.c2_spec.specs.Cbor.Item.{Pairs};
 ghost use Rattle.c2_definition.specs.DefinitionFile.{IsWellFormed};
-ghost use Rattle.c2_build_refusals.specs.Kinds.{ComesAs, ComesTo, IsMessageCause, IsReadCause};
+ghost use Rattle.c2_build_refusals.specs.Kinds.{ComesAs, HasOutcome, IsMessageCause, IsReadCause};
 ghost use Rattle.c2_build_refusals.specs.Stages.{HasTextsIn, IsDefinitionStage, IsMessageStage};
 
 use crate::BuildError;
 use crate::texts::see_texts;
 use c2_base::limits::MAX_INPUT_LEN;
 use c2_base::{ReadAllError, Source, read_all};
-use c2_definition::{
-    Definition, DefinitionError, DefinitionField, definitions_are_well_formed,
-    each_definition_is_read_one_way, read_definition,
-};
+use c2_definition::{Definition, DefinitionError, DefinitionField, read_definition};
 use c2_new_signature::{MessageError, SignaturePart, read_message};
 use c2_sigstruct::Sign1;
 use std::alloc::Global;
@@ -27,16 +24,14 @@ pub fn read_definition_file<B: Source>(
     alloc: Global,
     file: &mut B,
 ) -> Result<Definition, BuildError>
-    ensures stage { ForSome (B.known file.old) (λ bytes. ComesTo (IsDefinitionStage bytes) result) }
+    ensures stage { ForSome (B.known file.old)
+        (λ bytes. HasOutcome (IsDefinitionStage bytes) result) }
     ensures formed { IfOk result IsWellFormed }
     ensures texts { ForSome (B.known file.old) (λ bytes. OnOk result (HasTextsIn bytes)) }
     ensures cause { IfErr result (IsReadCause (B.faults file.old) (B.faults file.new)) }
     ensures count { OnOk result (B.faults file.new ≡ B.faults file.old) }
     ensures stays { StaysSource B.len B.known B.faults file.old file.new }
 {
-    // Only the prover needs these laws.
-    each_definition_is_read_one_way();
-    definitions_are_well_formed();
     let bytes = match read_all(alloc, file, MAX_INPUT_LEN) {
         Ok(bytes) => bytes,
         Err(ReadAllError::TooLong(_)) => {

@@ -1,19 +1,19 @@
 // For the prover: the texts of a definition are texts as a program holds them.
 ghost use Rattle.std.specs.List.{AllByRecursion};
 ghost use Rattle.c2_definition.specs.declared.types.NewAssertion.{NewAssertion as AnyAssertion};
-ghost use Rattle.c2_new_store_spec.specs.Written.{HasTexts, IsText};
+ghost use Rattle.c2_new_file_spec.specs.Written.{HasTexts, IsText};
 
 use c2_base::Text;
 use c2_definition::{Definition, NewAssertion};
 
-// One text is.
+// One text is a text as a program holds it.
 fn see_text(text: &Text)
     ensures { IsText text.now }
 {
     let _text = text.as_str();
 }
 
-// Those of a list are.
+// The texts of a list are texts as a program holds them.
 #[tactic(auto, using(crate::proofs::Seen::one_more, crate::proofs::Seen::at_end))]
 fn see_list(texts: &[Text])
     ensures { AllByRecursion IsText texts.now }
@@ -23,7 +23,7 @@ fn see_list(texts: &[Text])
     }
 }
 
-// The labels of new assertions are.
+// The labels of new assertions are texts as a program holds them.
 #[tactic(auto, using(crate::proofs::Seen::one_more, crate::proofs::Seen::at_end))]
 fn see_labels(list: &[NewAssertion])
     ensures { AllByRecursion (λ (a : AnyAssertion). IsText a.label) list.now }

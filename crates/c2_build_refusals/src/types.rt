@@ -4,16 +4,6 @@ use c2_bmff_boxes::types::Roots;
 use c2_layout::Carried;
 use c2_without_store::Clearing;
 
-/// The container of a media file, without its parts.
-#[derive(Clone, Copy, Debug, PartialEq, Eq)]
-pub enum FileForm {
-    /// JPEG.
-    Jpeg,
-
-    /// The ISO base media file format.
-    Bmff,
-}
-
 /// What a new file is built over, as it is kept.
 #[derive(Debug, Drop)]
 pub struct BuildBase {
@@ -35,7 +25,7 @@ pub enum InsertPoint {
         /// The place of the first byte of the packets.
         start: u64,
 
-        /// Their number, the least that is free, where one is.
+        /// The number of the packets, the least that is free, where one is.
         number: Option<u16>,
     },
 
@@ -46,10 +36,10 @@ pub enum InsertPoint {
 /// What is put in of a new store.
 #[derive(Clone, Copy, Debug, PartialEq, Eq)]
 pub enum Put {
-    /// Its packets, under this number.
+    /// The packets of the store, under this number.
     Packets(u16),
 
-    /// Its box.
+    /// The box of the store.
     Box,
 }
 
@@ -72,13 +62,13 @@ pub struct Draft {
 /// What is to be built, and over what.
 #[derive(Debug, Drop)]
 pub struct Drafted {
-    /// What it is built over.
+    /// What the new file is built over.
     pub ground: BuildBase,
 
-    /// The place in that.
+    /// The place in what the new file is built over.
     pub point: InsertPoint,
 
-    /// Its numbers.
+    /// The numbers of the new file.
     pub draft: Draft,
 }
 

@@ -3,7 +3,7 @@ ghost use Rattle.std.specs.Prelude.{◌≡◌, IfErr, ◌<◌, length};
 ghost use Rattle.std.specs.Option.{ForSome};
 ghost use Rattle.c2_base.specs.Sink.{WritesSink, unsaid};
 ghost use Rattle.c2_base.specs.Source.{ReadsSource};
-ghost use Rattle.c2_copying.specs.Writing.{IsReadCause, IsStep, IsWriteCause};
+ghost use Rattle.c2_copying.specs.Writing.{IsCopyReadCause, IsStep, IsCopyWriteCause};
 ghost use Rattle.c2_copying.specs.declared.copying.CopyError.TheVariants as copying;
 ghost use Rattle.c2_spec.specs.Bmff.Boxes.{box_bytes};
 ghost use Rattle.c2_spec.specs.Bmff.Writing.{c2pa_box};
@@ -14,7 +14,7 @@ use c2_base::{Failed, Sink, Source};
 use c2_bmff_boxes::write_box;
 use c2_build_refusals::{BuildError, Draft, Put};
 use c2_copying::{CopyError, copy, steps_follow};
-use c2_jpegseg::{packets_hold_the_store, write_segments};
+use c2_jpegseg::write_segments;
 
 // Appends the packets of a store under this number.
 fn write_packets<K: Sink>(store: &[u8], number: u16, out: &mut K) -> Result<(), CopyError>
@@ -22,10 +22,9 @@ fn write_packets<K: Sink>(store: &[u8], number: u16, out: &mut K) -> Result<(), 
     ensures step { IsStep K.written K.spare K.finished (packets_bytes store.now number)
         out.old out.new result }
     ensures fault { IfErr result (λ e. e ≡ copying.WriteFault) }
-    ensures writes { WritesSink K.written K.finished K.faults IsWriteCause out.old out.new result }
+    ensures writes { WritesSink K.written K.finished K.faults IsCopyWriteCause
+        out.old out.new result }
 {
-    // Only the prover needs this law.
-    packets_hold_the_store();
     match write_segments(store, number, out) {
         Ok(()) => Ok(()),
         Err(Failed) => Err(CopyError::WriteFault),
@@ -38,7 +37,8 @@ fn write_boxed<K: Sink>(store: &[u8], out: &mut K) -> Result<(), CopyError>
     ensures step { IsStep K.written K.spare K.finished (box_bytes (c2pa_box store.now))
         out.old out.new result }
     ensures fault { IfErr result (λ e. e ≡ copying.WriteFault) }
-    ensures writes { WritesSink K.written K.finished K.faults IsWriteCause out.old out.new result }
+    ensures writes { WritesSink K.written K.finished K.faults IsCopyWriteCause
+        out.old out.new result }
 {
     match write_box(store, out) {
         Ok(()) => Ok(()),
@@ -52,7 +52,8 @@ fn put_store<K: Sink>(store: &[u8], put: Put, out: &mut K) -> Result<(), CopyErr
     ensures step { IsStep K.written K.spare K.finished (put_of put store.now)
         out.old out.new result }
     ensures fault { IfErr result (λ e. e ≡ copying.WriteFault) }
-    ensures writes { WritesSink K.written K.finished K.faults IsWriteCause out.old out.new result }
+    ensures writes { WritesSink K.written K.finished K.faults IsCopyWriteCause
+        out.old out.new result }
 {
     match put {
         Put::Packets(number) => write_packets(store, number, out),
@@ -73,10 +74,10 @@ fn write_over<B: Source, K: Sink>(
     ensures step { ForSome (B.known base.old) (λ file. IsStep K.written K.spare K.finished
         (put_file draft store.now file)
         out.old out.new result) }
-    ensures reads { ReadsSource B.len B.known B.faults IsReadCause base.old base.new result }
-    ensures writes { WritesSink K.written K.finished K.faults IsWriteCause out.old out.new result }
+    ensures reads { ReadsSource B.len B.known B.faults IsCopyReadCause base.old base.new result }
+    ensures writes { WritesSink K.written K.finished K.faults IsCopyWriteCause
+        out.old out.new result }
 {
-    // Only the prover needs this law.
     steps_follow::<K>();
     // Matched and not handed up by `?`, here and below: each way out has clauses of its own.
     match copy(base, out, 0, draft.start, buffer) {
@@ -106,10 +107,9 @@ pub fn write_whole<B: Source, K: Sink>(
     requires room { 0 < length buffer.old }
     ensures written { WritesOver K.written K.spare K.finished (put_file draft store.now)
         (B.known base.old) out.old out.new result }
-    ensures reads { ReadsSource B.len B.known B.faults IsReadCause base.old base.new result }
-    ensures writes { WritesSink K.written unsaid K.faults IsWriteCause out.old out.new result }
+    ensures reads { ReadsSource B.len B.known B.faults IsCopyReadCause base.old base.new result }
+    ensures writes { WritesSink K.written unsaid K.faults IsCopyWriteCause out.old out.new result }
 {
-    // Only the prover needs this law.
     steps_follow::<K>();
     match write_over(base, store, draft, buffer, out) {
         Ok(()) => {}

@@ -1,22 +1,12 @@
 -- What a call leaves of its sink, put together from what the calls below it leave.
-use Rattle.std.proofs.Common.{◌≡◌, ℕ, Bool, List, [], ◌++◌, Result, Ok, Err, IfErr, OnOk, take, refl, sym, ap, ◌∙◌, subst, arith}
-use Rattle.std.proofs.lemmas.List.{append_assoc, append-nil}
+use Rattle.std.proofs.Common.{◌≡◌, ℕ, Bool, List, ◌++◌, Result, Ok, Err, IfErr, OnOk, take, refl, ap, ◌∙◌, subst, arith}
 use Rattle.std.specs.declared.option.Option.{Option}
-use Rattle.std.specs.declared.option.Option.TheVariants.{Some, None}
 use Rattle.c2_base.specs.Causes.{HasCause}
 use Rattle.c2_base.specs.Sink.{Appends, Grows, StaysSink, TakesPrefix, WritesSink, then_written}
+use Rattle.c2_base.proofs.Written.{appended_twice, grows_none}
+use Rattle.c2_lemmas.proofs.Results.{on_ok}
 
 -- ---- what was written
-
--- nothing was written
-grows_none : (a : Option (List ℕ)) → Grows a a
-grows_none None = ([], refl)
-grows_none (Some w) = ([], ap Some (sym (append-nil w)))
-
--- a text after a text
-appended_twice : (a : Option (List ℕ)) (s t : List ℕ) → then_written (then_written a s) t ≡ then_written a (s ++ t)
-appended_twice None s t = refl
-appended_twice (Some w) s t = ap Some (append_assoc w s t)
 
 -- what was written stays under what follows
 grows_next : (a b c : Option (List ℕ)) → Grows a b → Grows b c → Grows a c
@@ -24,22 +14,20 @@ grows_next a b c g h = (g.0 ++ h.0, h.1 ∙ ap (λ x. then_written x h.0) g.1 �
 
 -- ---- the sink
 
--- what holds holds of every `Ok`
-on_ok : {T E : Type 0} (P : Type 0) (r : Result T E) → P → OnOk r P
-on_ok P (Ok x) h = h
-on_ok P (Err e) h = tt
-
 module _ {K : Type 0} {written : K → Option (List ℕ)} {finished : K → Bool} {faults : K → ℕ} where
   -- a sink is left as it was
   pub sink_as_it_was : (k : K) → StaysSink written finished faults k k
   sink_as_it_was k = record { later = omega arith; grows = grows_none (written k); unfinished = refl }
 
   -- a text was written, and no call failed
-  pub sink_so_far : (text : List ℕ) (a b : K) → Appends (written a) (written b) text → finished b ≡ finished a → faults b ≡ faults a → StaysSink written finished faults a b
-  sink_so_far text a b wrote same quiet = record { later = omega (arith, quiet); grows = (text, wrote); unfinished = same }
+  pub sink_so_far : (text : List ℕ) (a b : K) → Appends (written a) (written b) text → finished b ≡ finished a
+      → faults b ≡ faults a → StaysSink written finished faults a b
+  sink_so_far text a b wrote same quiet =
+      record { later = omega (arith, quiet); grows = (text, wrote); unfinished = same }
 
   -- one call after another
-  pub sink_next : (a b c : K) → StaysSink written finished faults a b → StaysSink written finished faults b c → StaysSink written finished faults a c
+  pub sink_next : (a b c : K) → StaysSink written finished faults a b → StaysSink written finished faults b c
+      → StaysSink written finished faults a c
   sink_next a b c h k = record {
     later = omega (arith, h.later, k.later);
     grows = grows_next (written a) (written b) (written c) h.grows k.grows;
@@ -47,26 +35,36 @@ module _ {K : Type 0} {written : K → Option (List ℕ)} {finished : K → Bool
   }
 
   -- a call that writes nothing
-  pub writes_nothing : {T E : Type 0} {Cause : ℕ → ℕ → E → Type 0} (k : K) (r : Result T E) → IfErr r (Cause (faults k) (faults k)) → WritesSink written finished faults Cause k k r
-  writes_nothing k r cause = record { stays = sink_as_it_was k; quiet = on_ok (faults k ≡ faults k) r refl; cause = cause }
+  pub writes_nothing : {T E : Type 0} {Cause : ℕ → ℕ → E → Type 0} (k : K) (r : Result T E)
+      → IfErr r (Cause (faults k) (faults k)) → WritesSink written finished faults Cause k k r
+  writes_nothing k r cause =
+      record { stays = sink_as_it_was k; quiet = on_ok (faults k ≡ faults k) r refl; cause = cause }
 
   -- a call that ends after calls that succeeded
-  pub writes_done : {T E : Type 0} {Cause : ℕ → ℕ → E → Type 0} (a b : K) (r : Result T E) → StaysSink written finished faults a b → faults b ≡ faults a → IfErr r (Cause (faults a) (faults b))
+  pub writes_done : {T E : Type 0} {Cause : ℕ → ℕ → E → Type 0} (a b : K) (r : Result T E)
+      → StaysSink written finished faults a b → faults b ≡ faults a → IfErr r (Cause (faults a) (faults b))
       → WritesSink written finished faults Cause a b r
-  writes_done a b r stays quiet cause = record { stays = stays; quiet = on_ok (faults b ≡ faults a) r quiet; cause = cause }
+  writes_done a b r stays quiet cause =
+      record { stays = stays; quiet = on_ok (faults b ≡ faults a) r quiet; cause = cause }
 
   -- a call whose answer comes after the one below had one
-  pub writes_then : {T U E F : Type 0} {Below : ℕ → ℕ → E → Type 0} {Cause : ℕ → ℕ → F → Type 0} (a b : K) (x : T) (r : Result U F) → IfErr r (Cause (faults a) (faults b))
+  pub writes_then :
+      {T U E F : Type 0} {Below : ℕ → ℕ → E → Type 0} {Cause : ℕ → ℕ → F → Type 0} (a b : K) (x : T) (r : Result U F)
+      → IfErr r (Cause (faults a) (faults b))
       → WritesSink written finished faults Below a b (Ok x) → WritesSink written finished faults Cause a b r
   writes_then a b x r cause h = writes_done a b r h.stays h.quiet cause
 
   -- a call that hands up an error of the one below
-  pub writes_error : {T U E F : Type 0} {Below : ℕ → ℕ → E → Type 0} {Cause : ℕ → ℕ → F → Type 0} (a b : K) (e : E) (f : F) → (Below (faults a) (faults b) e → Cause (faults a) (faults b) f)
-      → WritesSink {T = T} written finished faults Below a b (Err e) → WritesSink {T = U} written finished faults Cause a b (Err f)
+  pub writes_error :
+      {T U E F : Type 0} {Below : ℕ → ℕ → E → Type 0} {Cause : ℕ → ℕ → F → Type 0} (a b : K) (e : E) (f : F)
+      → (Below (faults a) (faults b) e → Cause (faults a) (faults b) f)
+      → WritesSink {T = T} written finished faults Below a b (Err e)
+      → WritesSink {T = U} written finished faults Cause a b (Err f)
   writes_error a b e f same h = record { stays = h.stays; quiet = tt; cause = same h.cause }
 
   -- a call that writes after calls that succeeded
-  pub writes_next : {T E : Type 0} {Cause : ℕ → ℕ → E → Type 0} (a b c : K) (r : Result T E) → StaysSink written finished faults a b → faults b ≡ faults a → WritesSink written finished faults Cause b c r
+  pub writes_next : {T E : Type 0} {Cause : ℕ → ℕ → E → Type 0} (a b c : K) (r : Result T E)
+      → StaysSink written finished faults a b → faults b ≡ faults a → WritesSink written finished faults Cause b c r
       → WritesSink written finished faults Cause a c r
   writes_next {T} {E} {Cause} a b c r stays quiet h = record {
     stays = sink_next a b c stays h.stays;
@@ -75,8 +73,11 @@ module _ {K : Type 0} {written : K → Option (List ℕ)} {finished : K → Bool
   }
 
   -- a call that took a prefix of its bytes, all of them unless it failed
-  pub writes_taken : {T E : Type 0} {Cause : ℕ → ℕ → E → Type 0} (spare : K → Option ℕ) (bytes : List ℕ) (a b : K) (r : Result T E) → TakesPrefix written spare bytes a b → finished b ≡ finished a
-      → HasCause (faults a) (faults b) r → IfErr r (Cause (faults a) (faults b)) → WritesSink written finished faults Cause a b r
+  pub writes_taken :
+      {T E : Type 0} {Cause : ℕ → ℕ → E → Type 0} (spare : K → Option ℕ) (bytes : List ℕ) (a b : K) (r : Result T E)
+      → TakesPrefix written spare bytes a b → finished b ≡ finished a
+      → HasCause (faults a) (faults b) r → IfErr r (Cause (faults a) (faults b))
+      → WritesSink written finished faults Cause a b r
   writes_taken spare bytes a b r taken same h cause = record {
     stays = record { later = h.later; grows = (take taken.count bytes, taken.prefix); unfinished = same };
     quiet = h.ok;

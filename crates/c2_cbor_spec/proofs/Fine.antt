@@ -12,20 +12,25 @@ use Rattle.c2_cbor_spec.proofs.Unique.{head_limit}
 use Rattle.c2_cbor_spec.proofs.Complete.{begins, Begins}
 
 -- chunks are no shorter than the string that they make
-joined_len : (ok : List ℕ → Bool) (m : ℕ) (cs : List (List ℕ)) (t : List ℕ) → AreChunks ok m cs t → length (joined cs) ≤ length t
+joined_len : (ok : List ℕ → Bool) (m : ℕ) (cs : List (List ℕ)) (t : List ℕ) → AreChunks ok m cs t
+    → length (joined cs) ≤ length t
 joined_len ok m [] t p = omega arith
 joined_len ok m (c ∷ cs) t (x, y, (h, hd, good, e), q, f) =
-    omega (arith, ap length e, ap length f, length-append h c, length-append x y, length-append c (joined cs), joined_len ok m cs y q)
+    omega
+    (arith, ap length e, ap length f, length-append h c, length-append x y, length-append c (joined cs), joined_len ok m cs y q)
 
 -- chunks that are UTF-8 make a string that is
 joined_utf8 : (m : ℕ) (cs : List (List ℕ)) (t : List ℕ) → AreChunks is_utf8 m cs t → IsUtf8 (joined cs)
 joined_utf8 m [] t p = IsUtf8-nil
-joined_utf8 m (c ∷ cs) t (x, y, (h, hd, good, e), q, f) = IsUtf8-append c (joined cs) (IsUtf8-from_is_utf8 c good) (joined_utf8 m cs y q)
+joined_utf8 m (c ∷ cs) t (x, y, (h, hd, good, e), q, f) =
+    IsUtf8-append c (joined cs) (IsUtf8-from_is_utf8 c good) (joined_utf8 m cs y q)
 
 -- a string is no longer than its spelling
-string_fine : (ok : List ℕ → Bool) (m : ℕ) (b x : List ℕ) → length x < 2 ^ 64 → SpellsString ok m b x → length b < 2 ^ 64
+string_fine : (ok : List ℕ → Bool) (m : ℕ) (b x : List ℕ) → length x < 2 ^ 64 → SpellsString ok m b x
+    → length b < 2 ^ 64
 string_fine ok m b x lt (inl (h, p, good, e)) = head_limit m (length b) h p
-string_fine ok m b x lt (inr (cs, t, p, j, e)) = omega (arith, ap length j, ap length e, joined_len ok m cs t p, length-append t (255 ∷ []))
+string_fine ok m b x lt (inr (cs, t, p, j, e)) =
+    omega (arith, ap length j, ap length e, joined_len ok m cs t p, length-append t (255 ∷ []))
 
 -- a text that is spelled is UTF-8
 text_good : (b x : List ℕ) → SpellsString is_utf8 3 b x → is_utf8 b ≡ true
@@ -33,8 +38,10 @@ text_good b x (inl (h, p, good, e)) = good
 text_good b x (inr (cs, t, p, j, e)) = is_utf8-from_IsUtf8 b (subst IsUtf8 (sym j) (joined_utf8 3 cs t p))
 
 -- a list or map has no more members than its spelling has bytes
-brackets_fine : (m n : ℕ) (P : List ℕ → Type 0) (x : List ℕ) → length x < 2 ^ 64 → ((t : List ℕ) → P t → n ≤ length t) → InBrackets m n P x → (n < 2 ^ 64) × ((t : List ℕ) × P t × (length t < 2 ^ 64))
-brackets_fine m n P x lt small (inl (h, t, p, q, e)) = (head_limit m n h p, (t, q, omega (arith, ap length e, length-append h t)))
+brackets_fine : (m n : ℕ) (P : List ℕ → Type 0) (x : List ℕ) → length x < 2 ^ 64 → ((t : List ℕ) → P t → n ≤ length t)
+    → InBrackets m n P x → (n < 2 ^ 64) × ((t : List ℕ) × P t × (length t < 2 ^ 64))
+brackets_fine m n P x lt small (inl (h, t, p, q, e)) =
+    (head_limit m n h p, (t, q, omega (arith, ap length e, length-append h t)))
 brackets_fine m n P x lt small (inr (t, q, e)) =
     let bound : length t < 2 ^ 64 = omega (arith, ap length e, length-append t (255 ∷ [])) in
     (omega (arith, small t q), (t, q, bound))
@@ -46,12 +53,14 @@ begun x (b, t, lt, e) = omega (arith, ap length e)
 -- there are no more items than bytes that spell them
 items_small : (vs : Items) (x : List ℕ) → SpellItems vs x → items_len vs ≤ length x
 items_small no_items x p = omega arith
-items_small (item v vs) x (y, z, p, q, e) = omega (arith, ap length e, length-append y z, begun y (begins v y p), items_small vs z q)
+items_small (item v vs) x (y, z, p, q, e) =
+    omega (arith, ap length e, length-append y z, begun y (begins v y p), items_small vs z q)
 
 -- there are no more pairs than bytes that spell them
 pairs_small : (ps : Pairs) (x : List ℕ) → SpellPairs ps x → pairs_len ps ≤ length x
 pairs_small no_pairs x p = omega arith
-pairs_small (pair k v ps) x (y, w, z, p, pv, q, e) = omega (arith, ap length e, length-append y (w ++ z), length-append w z, begun y (begins k y p), pairs_small ps z q)
+pairs_small (pair k v ps) x (y, w, z, p, pv, q, e) =
+    omega (arith, ap length e, length-append y (w ++ z), length-append w z, begun y (begins k y p), pairs_small ps z q)
 
 mutual
   -- what a list of fewer than 2^64 bytes spells fits the widths of heads
@@ -72,7 +81,8 @@ mutual
   -- the same of items one after the other
   pub fine_items : (vs : Items) (x : List ℕ) → length x < 2 ^ 64 → SpellItems vs x → FineItems vs
   fine_items no_items x lt p = tt
-  fine_items (item v vs) x lt (y, z, p, q, e) = (fine v y (omega (arith, ap length e, length-append y z)) p, fine_items vs z (omega (arith, ap length e, length-append y z)) q)
+  fine_items (item v vs) x lt (y, z, p, q, e) =
+      (fine v y (omega (arith, ap length e, length-append y z)) p, fine_items vs z (omega (arith, ap length e, length-append y z)) q)
 
   -- the same of pairs one after the other
   pub fine_pairs : (ps : Pairs) (x : List ℕ) → length x < 2 ^ 64 → SpellPairs ps x → FinePairs ps

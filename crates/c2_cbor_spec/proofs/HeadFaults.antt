@@ -15,10 +15,8 @@ use Rattle.c2_spec.specs.declared.cbor.CborError.TheVariants as errors
 use Rattle.c2_cbor_spec.specs.Placed.{error_at}
 use Rattle.c2_cbor_spec.specs.Reading.{Read, ◌>>=◌, byte_at, number_at, argument_at, count_at, major_7, head_of, head_at, string_at}
 use Rattle.c2_cbor_spec.proofs.Heads.{AreBytes, chosen, mapped, failed, first_is, rest_is}
-
--- two numbers that differ aren't equal by the test
-pub not_same : (a b : ℕ) → (a ≡ b → ⊥) → (a == b) ≡ false
-not_same a b ne = elim (a == b) as (λ t. (a == b) ≡ t → t ≡ false) [ true ↦ λ e. absurd (ne (eqb-true a b e)) | false ↦ λ e. refl ] refl
+use Rattle.c2_lemmas.proofs.Bools.{true_not_false}
+use Rattle.c2_lemmas.proofs.Numbers.{not_equal}
 
 -- a fault as an answer
 abbrev pub err : {A : Type 0} → Fault → Result A Fault
@@ -37,7 +35,8 @@ pub no_err : {A : Type 0} {P : Type 0} (x : A) (f : Fault) → Ok x ≡ err f �
 no_err x f e = absurd cc
 
 -- a fault of two steps is that of the first, or of the second after the first
-pub bind_err : {A B : Type 0} (r : Result A Fault) (k : A → Result B Fault) (f : Fault) → (r >>= k) ≡ Err f → (r ≡ Err f) ⊎ ((x : A) × (r ≡ Ok x) × (k x ≡ Err f))
+pub bind_err : {A B : Type 0} (r : Result A Fault) (k : A → Result B Fault) (f : Fault) → (r >>= k) ≡ Err f
+    → (r ≡ Err f) ⊎ ((x : A) × (r ≡ Ok x) × (k x ≡ Err f))
 bind_err (Ok x) k f e = inr (x, refl, e)
 bind_err (Err g) k f e = inl (ap err (err_is g f e))
 
@@ -50,7 +49,8 @@ mapped_err k (Err g) f e = ap err (err_is g f e)
 
 -- too few bytes for a number are told as cut short
 number_cut : (w : Width) (s : List ℕ) → length s < byte_len w → number_at w s ≡ Err Short
-number_cut w s lt = ap (λ b. cond b (Err Short) (Ok (from_be_bytes w (take (byte_len w) s), drop (byte_len w) s))) (lt-ltb _ _ lt)
+number_cut w s lt =
+    ap (λ b. cond b (Err Short) (Ok (from_be_bytes w (take (byte_len w) s), drop (byte_len w) s))) (lt-ltb _ _ lt)
 
 -- no byte is told as cut short
 byte_cut : (s : List ℕ) → length s < 1 → byte_at s ≡ Err Short
@@ -68,7 +68,9 @@ argument_cut at a s (inr (inr (inr p))) = ap (λ k. argument_at at k s) p.0 ∙ 
 -- the same of major type 7
 major_7_cut : (at a : ℕ) (s : List ℕ) → IsCut a s → major_7 at a s ≡ Err Short
 unfolding major_7
-major_7_cut at a s (inl p) = ap (λ k. major_7 at k s) p.0 ∙ ap (λ r. r >>= λ n. cond (ltb n.0 32) (Err (Reserved at)) (Ok (heads.Simple n.0, n.1))) (byte_cut s p.1)
+major_7_cut at a s (inl p) =
+    ap (λ k. major_7 at k s) p.0
+    ∙ ap (λ r. r >>= λ n. cond (ltb n.0 32) (Err (Reserved at)) (Ok (heads.Simple n.0, n.1))) (byte_cut s p.1)
 major_7_cut at a s (inr (inl p)) = ap (λ k. major_7 at k s) p.0 ∙ ap (mapped heads.Half) (number_cut w16 s p.1)
 major_7_cut at a s (inr (inr (inl p))) = ap (λ k. major_7 at k s) p.0 ∙ ap (mapped heads.Single) (number_cut w32 s p.1)
 major_7_cut at a s (inr (inr (inr p))) = ap (λ k. major_7 at k s) p.0 ∙ ap (mapped heads.Double) (number_cut w64 s p.1)
@@ -83,22 +85,33 @@ cut_small a s (inr (inr (inr p))) = omega arith
 -- the same of a count
 count_cut : (at a : ℕ) (s : List ℕ) → IsCut a s → count_at at a s ≡ Err Short
 unfolding count_at
-count_cut at a s p = ap (λ b. cond b (Ok (counts.Open, s)) (mapped counts.Left (argument_at at a s))) (not_same a 31 (λ e. omega (arith, cut_small a s p))) ∙ ap (mapped counts.Left) (argument_cut at a s p)
+count_cut at a s p =
+    ap (λ b. cond b (Ok (counts.Open, s)) (mapped counts.Left (argument_at at a s)))
+    (not_equal a 31 (λ e. omega (arith, cut_small a s p)))
+    ∙ ap (mapped counts.Left) (argument_cut at a s p)
 
 -- additional information from 28 on is told as reserved
 argument_reserved : (at a : ℕ) (s : List ℕ) → 28 ≤ a → argument_at at a s ≡ Err (Reserved at)
 unfolding argument_at
-argument_reserved at a s le = rw (le-ltb a 24 (omega arith), not_same a 24 (λ e. omega arith), not_same a 25 (λ e. omega arith), not_same a 26 (λ e. omega arith), not_same a 27 (λ e. omega arith)) refl
+argument_reserved at a s le =
+    rw
+    (le-ltb a 24 (omega arith), not_equal a 24 (λ e. omega arith), not_equal a 25 (λ e. omega arith), not_equal a 26 (λ e. omega arith), not_equal a 27 (λ e. omega arith))
+    refl
 
 -- the same of major type 7
 major_7_reserved : (at a : ℕ) (s : List ℕ) → 28 ≤ a → major_7 at a s ≡ Err (Reserved at)
 unfolding major_7
-major_7_reserved at a s le = rw (le-ltb a 24 (omega arith), not_same a 24 (λ e. omega arith), not_same a 25 (λ e. omega arith), not_same a 26 (λ e. omega arith), not_same a 27 (λ e. omega arith)) refl
+major_7_reserved at a s le =
+    rw
+    (le-ltb a 24 (omega arith), not_equal a 24 (λ e. omega arith), not_equal a 25 (λ e. omega arith), not_equal a 26 (λ e. omega arith), not_equal a 27 (λ e. omega arith))
+    refl
 
 -- the same of a count, but for 31
 count_reserved : (at a : ℕ) (s : List ℕ) → 28 ≤ a → a ≤ 30 → count_at at a s ≡ Err (Reserved at)
 unfolding count_at
-count_reserved at a s le ge = ap (λ b. cond b (Ok (counts.Open, s)) (mapped counts.Left (argument_at at a s))) (not_same a 31 (λ e. omega arith)) ∙ ap (mapped counts.Left) (argument_reserved at a s le)
+count_reserved at a s le ge =
+    ap (λ b. cond b (Ok (counts.Open, s)) (mapped counts.Left (argument_at at a s))) (not_equal a 31 (λ e. omega arith))
+    ∙ ap (mapped counts.Left) (argument_reserved at a s le)
 
 -- the argument fails where the information is no opening
 module _ (at a : ℕ) (s : List ℕ) (f : Fault) (arg : argument_at at a s ≡ Err f) (cnt : count_at at a s ≡ Err f) (sev : major_7 at a s ≡ Err f) (ne : a ≡ 31 → ⊥) where
@@ -107,8 +120,12 @@ module _ (at a : ℕ) (s : List ℕ) (f : Fault) (arg : argument_at at a s ≡ E
   unfolding head_of
   all_majors zero lt = ap (mapped heads.Uint) arg
   all_majors (suc zero) lt = ap (mapped heads.Nint) arg
-  all_majors (suc (suc zero)) lt = ap (λ b. cond b (Ok (heads.ByteChunks, s)) (mapped heads.Bytes (argument_at at a s))) (not_same a 31 ne) ∙ ap (mapped heads.Bytes) arg
-  all_majors (suc (suc (suc zero))) lt = ap (λ b. cond b (Ok (heads.TextChunks, s)) (mapped heads.Text (argument_at at a s))) (not_same a 31 ne) ∙ ap (mapped heads.Text) arg
+  all_majors (suc (suc zero)) lt =
+      ap (λ b. cond b (Ok (heads.ByteChunks, s)) (mapped heads.Bytes (argument_at at a s))) (not_equal a 31 ne)
+      ∙ ap (mapped heads.Bytes) arg
+  all_majors (suc (suc (suc zero))) lt =
+      ap (λ b. cond b (Ok (heads.TextChunks, s)) (mapped heads.Text (argument_at at a s))) (not_equal a 31 ne)
+      ∙ ap (mapped heads.Text) arg
   all_majors (suc (suc (suc (suc zero)))) lt = ap (mapped heads.List) cnt
   all_majors (suc (suc (suc (suc (suc zero))))) lt = ap (mapped heads.Map) cnt
   all_majors (suc (suc (suc (suc (suc (suc zero)))))) lt = ap (mapped heads.Tag) arg
@@ -118,11 +135,17 @@ module _ (at a : ℕ) (s : List ℕ) (f : Fault) (arg : argument_at at a s ≡ E
 -- a head with reserved additional information is told as such
 reserved_head : (at m a : ℕ) (s : List ℕ) → m < 8 → IsReserved m a → head_of at m a s ≡ Err (Reserved at)
 unfolding head_of
-reserved_head at m a s lt (inl p) = all_majors at a s (Reserved at) (argument_reserved at a s p.0) (count_reserved at a s p.0 p.1) (major_7_reserved at a s p.0) (λ e. omega (arith, p.1)) m lt
-reserved_head at m a s lt (inr (e, inl k)) = ap (λ j. head_of at j a s) k ∙ ap (mapped heads.Uint) (argument_reserved at a s (omega arith))
-reserved_head at m a s lt (inr (e, inr (inl k))) = ap (λ j. head_of at j a s) k ∙ ap (mapped heads.Nint) (argument_reserved at a s (omega arith))
-reserved_head at m a s lt (inr (e, inr (inr (inl k)))) = ap (λ j. head_of at j a s) k ∙ ap (mapped heads.Tag) (argument_reserved at a s (omega arith))
-reserved_head at m a s lt (inr (e, inr (inr (inr k)))) = ap (λ j. head_of at j a s) k ∙ major_7_reserved at a s (omega arith)
+reserved_head at m a s lt (inl p) =
+    all_majors at a s (Reserved at) (argument_reserved at a s p.0) (count_reserved at a s p.0 p.1)
+    (major_7_reserved at a s p.0) (λ e. omega (arith, p.1)) m lt
+reserved_head at m a s lt (inr (e, inl k)) =
+    ap (λ j. head_of at j a s) k ∙ ap (mapped heads.Uint) (argument_reserved at a s (omega arith))
+reserved_head at m a s lt (inr (e, inr (inl k))) =
+    ap (λ j. head_of at j a s) k ∙ ap (mapped heads.Nint) (argument_reserved at a s (omega arith))
+reserved_head at m a s lt (inr (e, inr (inr (inl k)))) =
+    ap (λ j. head_of at j a s) k ∙ ap (mapped heads.Tag) (argument_reserved at a s (omega arith))
+reserved_head at m a s lt (inr (e, inr (inr (inr k)))) =
+    ap (λ j. head_of at j a s) k ∙ major_7_reserved at a s (omega arith)
 
 -- a fault of a head is told
 pub head_told : (n : ℕ) (s : List ℕ) (w : CborError) → AreBytes s → HeadFault n s w → Told n (head_at s) w
@@ -139,7 +162,8 @@ head_told n s w fits (b, t, e, inr (inr (is248, c, u, g, lt, is))) =
     (Reserved (length s), ap head_at whole ∙ ap (λ k. cond k (Err (Reserved (length (248 ∷ (c ∷ u))))) (Ok (heads.Simple c, u))) (lt-ltb c 32 lt) ∙ ap (λ k. Err (Reserved k)) (sym (ap length whole)), is)
 
 -- a fault of a string at its definite length
-pub string_told : (n : ℕ) (ok : List ℕ → Bool) (k : ℕ) (s t : List ℕ) (w : CborError) → ((length t < k) × (w ≡ errors.Short n)) ⊎ ((k ≤ length t) × (ok (take k t) ≡ false) × (w ≡ errors.BadText (place n s)))
+pub string_told : (n : ℕ) (ok : List ℕ → Bool) (k : ℕ) (s t : List ℕ) (w : CborError)
+    → ((length t < k) × (w ≡ errors.Short n)) ⊎ ((k ≤ length t) × (ok (take k t) ≡ false) × (w ≡ errors.BadText (place n s)))
     → Told n (string_at ok (length s) k t) w
 unfolding string_at
 string_told n ok k s t w (inl p) = (Short, rw (lt-ltb (length t) k p.0) refl, p.1)
@@ -149,7 +173,9 @@ string_told n ok k s t w (inr p) = (BadText (length s), rw (le-ltb (length t) k 
 
 -- a number that isn't read is cut short
 number_fault : (w : Width) (s : List ℕ) (f : Fault) → number_at w s ≡ Err f → (length s < byte_len w) × (f ≡ Short)
-number_fault w s f e = elim (chosen (ltb (length s) (byte_len w)) _ _ _ e) [ inl p ↦ (ltb-true _ _ p.0, sym (err_is _ _ p.1)) | inr p ↦ no_err _ _ p.1 ]
+number_fault w s f e =
+    elim (chosen (ltb (length s) (byte_len w)) _ _ _ e)
+    [ inl p ↦ (ltb-true _ _ p.0, sym (err_is _ _ p.1)) | inr p ↦ no_err _ _ p.1 ]
 
 -- a byte that isn't read isn't there
 byte_fault : (s : List ℕ) (f : Fault) → byte_at s ≡ Err f → (length s < 1) × (f ≡ Short)
@@ -160,13 +186,9 @@ byte_fault (b ∷ s) f e = no_err _ _ e
 abbrev pub ArgumentFault : ℕ → ℕ → List ℕ → Fault → Type 0
 ArgumentFault at a s f = ((28 ≤ a) × (f ≡ Reserved at)) ⊎ (IsCut a s × (f ≡ Short))
 
--- a condition doesn't both hold and fail
-pub not_true : (b : Bool) → b ≡ true → b ≡ false → ⊥
-not_true b e f = cc
-
 -- numbers that differ by the test differ
 pub differs : (a b : ℕ) → (a == b) ≡ false → a ≡ b → ⊥
-differs a b e same = not_true (a == b) (eq-eqb a b same) e
+differs a b e same = true_not_false (a == b) (eq-eqb a b same) e
 
 -- from 24 on, what is none of 24 to 27 is 28 or more
 above : (a : ℕ) → 24 ≤ a → (a ≡ 24 → ⊥) → (a ≡ 25 → ⊥) → (a ≡ 26 → ⊥) → (a ≡ 27 → ⊥) → 28 ≤ a
@@ -196,7 +218,9 @@ argument_fault at a s f e =
 -- a count that isn't read has this fault, and isn't 31
 count_fault : (at a : ℕ) (s : List ℕ) (f : Fault) → count_at at a s ≡ Err f → (a ≡ 31 → ⊥) × ArgumentFault at a s f
 unfolding count_at
-count_fault at a s f e = elim (chosen (a == 31) _ _ _ e) [ inl p ↦ no_err _ _ p.1 | inr p ↦ (differs a 31 p.0, argument_fault at a s f (mapped_err counts.Left _ f p.1)) ]
+count_fault at a s f e =
+    elim (chosen (a == 31) _ _ _ e)
+    [ inl p ↦ no_err _ _ p.1 | inr p ↦ (differs a 31 p.0, argument_fault at a s f (mapped_err counts.Left _ f p.1)) ]
 
 -- below 32, what isn't 31 is at most 30
 less : (a : ℕ) → (a ≡ 31 → ⊥) → a < 32 → a ≤ 30
@@ -210,11 +234,14 @@ byte_parts (c ∷ s) b r e = ap (λ k. k ∷ s) (first_is _ _ _ _ e) ∙ ap (λ 
 -- a fault behind the first byte of a head
 abbrev Behind : ℕ → ℕ → ℕ → List ℕ → Fault → Type 0
 Behind at m a s f =
-    (IsReserved m a × (f ≡ Reserved at)) ⊎ ((IsCut a s × (f ≡ Short)) ⊎ ((m ≡ 7) × (a ≡ 24) × (c : ℕ) × (u : List ℕ) × (s ≡ c ∷ u) × (c < 32) × (f ≡ Reserved at)))
+    (IsReserved m a × (f ≡ Reserved at))
+    ⊎ ((IsCut a s × (f ≡ Short)) ⊎ ((m ≡ 7) × (a ≡ 24) × (c : ℕ) × (u : List ℕ) × (s ≡ c ∷ u) × (c < 32) × (f ≡ Reserved at)))
 
 -- the fault of an argument, where an opening is reserved or was read before
-argument_behind : (at m a : ℕ) (s : List ℕ) (f : Fault) → a < 32 → (a ≡ 31 → IsReserved m a) → ArgumentFault at a s f → Behind at m a s f
-argument_behind at m a s f lt opening (inl p) = elim (eqb_tells a 31) [ inl q ↦ inl (opening q.1, p.1) | inr q ↦ inl (inl (p.0, less a (λ e. q.1 e) lt), p.1) ]
+argument_behind : (at m a : ℕ) (s : List ℕ) (f : Fault) → a < 32 → (a ≡ 31 → IsReserved m a) → ArgumentFault at a s f
+    → Behind at m a s f
+argument_behind at m a s f lt opening (inl p) =
+    elim (eqb_tells a 31) [ inl q ↦ inl (opening q.1, p.1) | inr q ↦ inl (inl (p.0, less a (λ e. q.1 e) lt), p.1) ]
 argument_behind at m a s f lt opening (inr p) = inr (inl p)
 
 -- a head of major type 7 that isn't read has this fault
@@ -238,7 +265,9 @@ major_7_fault at a s f lt e =
             | inr v ↦ elim (chosen (a == 27) _ _ _ v.1) [
               | inl w ↦ let g = number_fault w64 s f (mapped_err heads.Double _ f w.1) in inr (inl (inr (inr (inr (eqb-true a 27 w.0, g.0))), g.1))
               | inr w ↦
-                  let high = above a (ltb-false a 24 p.0) (differs a 24 q.0) (differs a 25 u.0) (differs a 26 v.0) (differs a 27 w.0) in
+                  let high =
+                  above a (ltb-false a 24 p.0) (differs a 24 q.0) (differs a 25 u.0) (differs a 26 v.0)
+                  (differs a 27 w.0) in
                   argument_behind at 7 a s f lt (λ h. inr (h, inr (inr (inr refl)))) (inl (high, sym (err_is _ _ w.1)))
             ]
           ]
@@ -249,20 +278,28 @@ major_7_fault at a s f lt e =
 -- the same of every major type
 head_of_fault : (at m a : ℕ) (s : List ℕ) (f : Fault) → m < 8 → a < 32 → head_of at m a s ≡ Err f → Behind at m a s f
 unfolding head_of
-head_of_fault at zero a s f lt low e = argument_behind at 0 a s f low (λ h. inr (h, inl refl)) (argument_fault at a s f (mapped_err heads.Uint _ f e))
-head_of_fault at (suc zero) a s f lt low e = argument_behind at 1 a s f low (λ h. inr (h, inr (inl refl))) (argument_fault at a s f (mapped_err heads.Nint _ f e))
+head_of_fault at zero a s f lt low e =
+    argument_behind at 0 a s f low (λ h. inr (h, inl refl)) (argument_fault at a s f (mapped_err heads.Uint _ f e))
+head_of_fault at (suc zero) a s f lt low e =
+    argument_behind at 1 a s f low (λ h. inr (h, inr (inl refl)))
+    (argument_fault at a s f (mapped_err heads.Nint _ f e))
 head_of_fault at (suc (suc zero)) a s f lt low e =
-    elim (chosen (a == 31) _ _ _ e) [ inl p ↦ no_err _ _ p.1 | inr p ↦ argument_behind at 2 a s f low (λ h. absurd (differs a 31 p.0 h)) (argument_fault at a s f (mapped_err heads.Bytes _ f p.1)) ]
+    elim (chosen (a == 31) _ _ _ e)
+    [ inl p ↦ no_err _ _ p.1 | inr p ↦ argument_behind at 2 a s f low (λ h. absurd (differs a 31 p.0 h)) (argument_fault at a s f (mapped_err heads.Bytes _ f p.1)) ]
 head_of_fault at (suc (suc (suc zero))) a s f lt low e =
-    elim (chosen (a == 31) _ _ _ e) [ inl p ↦ no_err _ _ p.1 | inr p ↦ argument_behind at 3 a s f low (λ h. absurd (differs a 31 p.0 h)) (argument_fault at a s f (mapped_err heads.Text _ f p.1)) ]
+    elim (chosen (a == 31) _ _ _ e)
+    [ inl p ↦ no_err _ _ p.1 | inr p ↦ argument_behind at 3 a s f low (λ h. absurd (differs a 31 p.0 h)) (argument_fault at a s f (mapped_err heads.Text _ f p.1)) ]
 head_of_fault at (suc (suc (suc (suc zero)))) a s f lt low e = let c = count_fault at a s f (mapped_err heads.List _ f e) in argument_behind at 4 a s f low (λ h. absurd (c.0 h)) c.1
 head_of_fault at (suc (suc (suc (suc (suc zero))))) a s f lt low e = let c = count_fault at a s f (mapped_err heads.Map _ f e) in argument_behind at 5 a s f low (λ h. absurd (c.0 h)) c.1
-head_of_fault at (suc (suc (suc (suc (suc (suc zero)))))) a s f lt low e = argument_behind at 6 a s f low (λ h. inr (h, inr (inr (inl refl)))) (argument_fault at a s f (mapped_err heads.Tag _ f e))
+head_of_fault at (suc (suc (suc (suc (suc (suc zero)))))) a s f lt low e =
+    argument_behind at 6 a s f low (λ h. inr (h, inr (inr (inl refl))))
+    (argument_fault at a s f (mapped_err heads.Tag _ f e))
 head_of_fault at (suc (suc (suc (suc (suc (suc (suc zero))))))) a s f lt low e = major_7_fault at a s f low e
 head_of_fault at (suc (suc (suc (suc (suc (suc (suc (suc m)))))))) a s f lt low e = let never : ⊥ = omega arith in absurd never
 
 -- a head that isn't read is at the end of the bytes, or has this fault
-pub head_fault : (n : ℕ) (s : List ℕ) (f : Fault) → AreBytes s → head_at s ≡ Err f → ((s ≡ []) × (f ≡ Short)) ⊎ HeadFault n s (error_at n f)
+pub head_fault : (n : ℕ) (s : List ℕ) (f : Fault) → AreBytes s → head_at s ≡ Err f
+    → ((s ≡ []) × (f ≡ Short)) ⊎ HeadFault n s (error_at n f)
 unfolding head_at
 head_fault n [] f fits e = inl (refl, sym (err_is _ _ e))
 head_fault n (b ∷ s) f fits e =

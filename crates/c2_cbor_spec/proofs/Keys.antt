@@ -10,6 +10,7 @@ use Rattle.std.specs.declared.cmp.Ordering.{Ordering}
 use Rattle.std.specs.declared.cmp.Ordering.TheVariants.{Less, Equal, Greater}
 use Rattle.std.specs.Cmp.Lexicographic.{slice_cmp}
 use Rattle.c2_cbor_spec.specs.Reading.{is_known, with_key}
+use Rattle.c2_lemmas.proofs.Bools.{or_second}
 
 -- ---- which keys are known
 
@@ -38,7 +39,8 @@ swapped false true c = refl
 swapped false false c = refl
 
 -- what is known with one more key
-pub known_with : (x k : List ℕ) (ks : List (List ℕ)) → is_known x (with_key ks k) ≡ (is_at (slice_cmp nat_cmp x) k || is_known x ks)
+pub known_with : (x k : List ℕ) (ks : List (List ℕ))
+    → is_known x (with_key ks k) ≡ (is_at (slice_cmp nat_cmp x) k || is_known x ks)
 known_with x k [] = refl
 known_with x k (y ∷ ys) =
     let test : List ℕ → Bool = is_at (slice_cmp nat_cmp x) in
@@ -52,16 +54,15 @@ known_with x k (y ∷ ys) =
 pub known_new : (k : List ℕ) (ks : List (List ℕ)) → is_known k (with_key ks k) ≡ true
 known_new k ks = known_with k k ks ∙ ap (λ b. b || is_known k ks) (at_same k k refl)
 
--- the second of two
-or_true : (a b : Bool) → b ≡ true → (a || b) ≡ true
-or_true true b e = refl
-or_true false b e = e
-
 -- what is known stays known
 pub known_stays : (x k : List ℕ) (ks : List (List ℕ)) → is_known x ks ≡ true → is_known x (with_key ks k) ≡ true
-known_stays x k ks e = known_with x k ks ∙ or_true _ _ e
+known_stays x k ks e = known_with x k ks ∙ or_second _ _ e
 
 -- another key stays unknown
-pub known_other : (x k : List ℕ) (ks : List (List ℕ)) → (x ≡ k → ⊥) → is_known x ks ≡ false → is_known x (with_key ks k) ≡ false
+pub known_other : (x k : List ℕ) (ks : List (List ℕ)) → (x ≡ k → ⊥) → is_known x ks ≡ false
+    → is_known x (with_key ks k) ≡ false
 known_other x k ks ne e =
-    known_with x k ks ∙ elim (is_at (slice_cmp nat_cmp x) k) as (λ b. is_at (slice_cmp nat_cmp x) k ≡ b → (b || is_known x ks) ≡ false) [ true ↦ λ h. absurd (ne (same_at x k h)) | false ↦ λ h. e ] refl
+    known_with x k ks
+    ∙ elim (is_at (slice_cmp nat_cmp x) k) as
+    (λ b. is_at (slice_cmp nat_cmp x) k ≡ b → (b || is_known x ks) ≡ false)
+    [ true ↦ λ h. absurd (ne (same_at x k h)) | false ↦ λ h. e ] refl

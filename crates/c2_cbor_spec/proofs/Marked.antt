@@ -38,7 +38,8 @@ digit_step x y p q lp lq l = elim (ltb x y) as (λ b. ltb x y ≡ b → (x < y) 
 ] refl
 
 -- equal numbers have equal digits
-same_digits : (m : ℕ) (a b : List ℕ) → Bytes a → Bytes b → digits m a ≡ digits m b → (i : ℕ) → i < m → get_or a i 0 ≡ get_or b i 0
+same_digits : (m : ℕ) (a b : List ℕ) → Bytes a → Bytes b → digits m a ≡ digits m b → (i : ℕ) → i < m
+    → get_or a i 0 ≡ get_or b i 0
 same_digits zero a b p q e i l = let never : ⊥ = omega (arith, l) in absurd never
 same_digits (suc m) a b p q e i l =
     let lp = p m in let lq = q m in
@@ -50,7 +51,8 @@ same_digits (suc m) a b p q e i l =
     ] refl
 
 -- the first place at which the digits of a lesser number differ
-first_other : (m : ℕ) (a b : List ℕ) → Bytes a → Bytes b → digits m a < digits m b → (j : ℕ) × ((i : ℕ) → i < j → get_or a i 0 ≡ get_or b i 0) × (get_or a j 0 < get_or b j 0)
+first_other : (m : ℕ) (a b : List ℕ) → Bytes a → Bytes b → digits m a < digits m b
+    → (j : ℕ) × ((i : ℕ) → i < j → get_or a i 0 ≡ get_or b i 0) × (get_or a j 0 < get_or b j 0)
 first_other zero a b p q l = let never : ⊥ = omega (arith, l) in absurd never
 first_other (suc m) a b p q l = elim (digit_step (digits m a) (digits m b) (get_or a m 0) (get_or b m 0) (p m) (q m) l) [
   | inl h ↦ first_other m a b p q h
@@ -58,32 +60,38 @@ first_other (suc m) a b p q l = elim (digit_step (digits m a) (digits m b) (get_
 ]
 
 -- a key that differs there is less
-other_less : (j : ℕ) (a b : List ℕ) → ((i : ℕ) → i < j → get_or a i 0 ≡ get_or b i 0) → get_or a j 0 < get_or b j 0 → slice_cmp nat_cmp a b ≡ Less
+other_less : (j : ℕ) (a b : List ℕ) → ((i : ℕ) → i < j → get_or a i 0 ≡ get_or b i 0) → get_or a j 0 < get_or b j 0
+    → slice_cmp nat_cmp a b ≡ Less
 other_less j [] [] h l = let never : ⊥ = omega (arith, l) in absurd never
 other_less j [] (y ∷ b) h l = refl
 other_less zero (x ∷ a) [] h l = let never : ⊥ = omega (arith, l) in absurd never
 other_less (suc j) (x ∷ a) [] h l = let never : ⊥ = omega (arith, l) in absurd never
 other_less zero (x ∷ a) (y ∷ b) h l = ap (λ o. ordering_then o (slice_cmp nat_cmp a b)) (sym (nat_cmp_is x y Less l))
 other_less (suc j) (x ∷ a) (y ∷ b) h l =
-    ap (λ o. ordering_then o (slice_cmp nat_cmp a b)) (sym (nat_cmp_is x y Equal (h 0 (omega arith)))) ∙ other_less j a b (λ i lt. h (suc i) (omega (arith, lt))) l
+    ap (λ o. ordering_then o (slice_cmp nat_cmp a b)) (sym (nat_cmp_is x y Equal (h 0 (omega arith))))
+    ∙ other_less j a b (λ i lt. h (suc i) (omega (arith, lt))) l
 
 -- bytes after others are bytes
 bytes_after : (n : ℕ) (k : List ℕ) → Bytes k → Bytes (drop n k)
 bytes_after n k b i = subst (λ x. x < 256) (sym (get_or-drop n k i 0)) (b (n + i))
 
 -- where all before agree, the key whose number is smaller is smaller
-front_less : (n : ℕ) (a b : List ℕ) → Bytes a → Bytes b → AgreeBelow n a b → front_after n a < front_after n b → slice_cmp nat_cmp a b ≡ Less
+front_less : (n : ℕ) (a b : List ℕ) → Bytes a → Bytes b → AgreeBelow n a b → front_after n a < front_after n b
+    → slice_cmp nat_cmp a b ≡ Less
 front_less n a b p q agree l =
-    let d : digits 8 (drop n a) < digits 8 (drop n b) = omega (arith, l, front_digits (drop n a), front_digits (drop n b)) in
+    let d : digits 8 (drop n a) < digits 8 (drop n b) =
+    omega (arith, l, front_digits (drop n a), front_digits (drop n b)) in
     let f = first_other 8 (drop n a) (drop n b) (bytes_after n a p) (bytes_after n b q) d in
     let before = λ (i : ℕ) (lt : i < n + f.0). elim (ltb i n) as (λ t. ltb i n ≡ t → get_or a i 0 ≡ get_or b i 0) [
       | true ↦ λ h. agree i (ltb-true i n h)
       | false ↦ λ h.
           let le : n ≤ i = ltb-false i n h in
           let e : n + (i - n) ≡ i = omega (arith, le) in
-          ap (λ j. get_or a j 0) (sym e) ∙ sym (get_or-drop n a (i - n) 0) ∙ f.1 (i - n) (omega (arith, le, lt)) ∙ get_or-drop n b (i - n) 0 ∙ ap (λ j. get_or b j 0) e
+          ap (λ j. get_or a j 0) (sym e) ∙ sym (get_or-drop n a (i - n) 0) ∙ f.1 (i - n) (omega (arith, le, lt))
+          ∙ get_or-drop n b (i - n) 0 ∙ ap (λ j. get_or b j 0) e
     ] refl in
-    let less : get_or a (n + f.0) 0 < get_or b (n + f.0) 0 = omega (arith, f.2, get_or-drop n a f.0 0, get_or-drop n b f.0 0) in
+    let less : get_or a (n + f.0) 0 < get_or b (n + f.0) 0 =
+    omega (arith, f.2, get_or-drop n a f.0 0, get_or-drop n b f.0 0) in
     other_less (n + f.0) a b before less
 
 -- a mark of a key that agrees with a
@@ -97,26 +105,32 @@ module _ (skip : ℕ) (a : List ℕ) where
 
   -- a mark of one of the first keys is one of more keys
   pub fits_more : (n k : ℕ) → n ≤ k → (m : Mark) → Fits n m → Fits k m
-  fits_more n k le m f = record { front = f.front; bytes = f.bytes; agree = f.agree; below = omega (arith, f.below, le) }
+  fits_more n k le m f =
+      record { front = f.front; bytes = f.bytes; agree = f.agree; below = omega (arith, f.below, le) }
 
 -- an order says how numbers stand
 ranked : (m n : ℕ) (o : Ordering) → nat_cmp m n ≡ o → MatchOrdering o (m < n) (m ≡ n) (n < m)
 ranked m n o e = subst (λ r. MatchOrdering r (m < n) (m ≡ n) (n < m)) e (ranks m n)
 
 -- the order of marks is that of keys and numbers
-pub mark_order : (skip : ℕ) (a : List ℕ) (m n : ℕ) (x y : Mark) → Fits skip a m x → Fits skip a n y → mark_cmp x y ≡ ordering_then (slice_cmp nat_cmp x.1 y.1) (nat_cmp x.2 y.2)
+pub mark_order : (skip : ℕ) (a : List ℕ) (m n : ℕ) (x y : Mark) → Fits skip a m x → Fits skip a n y
+    → mark_cmp x y ≡ ordering_then (slice_cmp nat_cmp x.1 y.1) (nat_cmp x.2 y.2)
 mark_order skip a m n x y p q =
     let one : AgreeBelow skip x.1 y.1 = λ i lt. sym (p.agree i lt) ∙ q.agree i lt in
     let other : AgreeBelow skip y.1 x.1 = λ i lt. sym (one i lt) in
     let s = slice_cmp nat_cmp x.1 y.1 in
     elim (nat_cmp x.0 y.0) as (λ r. nat_cmp x.0 y.0 ≡ r → ordering_then (ordering_then r s) (nat_cmp x.2 y.2) ≡ ordering_then s (nat_cmp x.2 y.2)) [
       | Less ↦ λ e.
-          let l : front_after skip x.1 < front_after skip y.1 = omega (arith, ranked x.0 y.0 Less e, p.front, q.front) in
+          let l : front_after skip x.1 < front_after skip y.1 =
+          omega (arith, ranked x.0 y.0 Less e, p.front, q.front) in
           ap (λ r. ordering_then r (nat_cmp x.2 y.2)) (sym (front_less skip x.1 y.1 p.bytes q.bytes one l))
       | Equal ↦ λ e. refl
       | Greater ↦ λ e.
-          let l : front_after skip y.1 < front_after skip x.1 = omega (arith, ranked x.0 y.0 Greater e, p.front, q.front) in
-          let g : s ≡ Greater = nat_list_cmp_total.antisymm x.1 y.1 ∙ ap ordering_reverse (front_less skip y.1 x.1 q.bytes p.bytes other l) in
+          let l : front_after skip y.1 < front_after skip x.1 =
+          omega (arith, ranked x.0 y.0 Greater e, p.front, q.front) in
+          let g : s ≡ Greater =
+          nat_list_cmp_total.antisymm x.1 y.1
+          ∙ ap ordering_reverse (front_less skip y.1 x.1 q.bytes p.bytes other l) in
           ap (λ r. ordering_then r (nat_cmp x.2 y.2)) (sym g)
     ] refl
 
@@ -126,10 +140,14 @@ module _ (P : Mark → Type 0) where
   -- what holds of all and of one more
   pub all_insert : (ms : List Mark) (m : Mark) → P m → AllByRecursion P ms → AllByRecursion P (insert_key mark_cmp ms m)
   all_insert [] m p h = (p, tt)
-  all_insert (x ∷ xs) m p h = elim (mark_cmp m x) as (λ o. AllByRecursion P (match_ordering o (m ∷ x ∷ xs) (x ∷ xs) (x ∷ insert_key mark_cmp xs m))) [ Less ↦ (p, h) | Equal ↦ h | Greater ↦ (h.0, all_insert xs m p h.1) ]
+  all_insert (x ∷ xs) m p h =
+      elim (mark_cmp m x) as
+      (λ o. AllByRecursion P (match_ordering o (m ∷ x ∷ xs) (x ∷ xs) (x ∷ insert_key mark_cmp xs m)))
+      [ Less ↦ (p, h) | Equal ↦ h | Greater ↦ (h.0, all_insert xs m p h.1) ]
 
 -- what follows of each
-pub all_map : (P Q : Mark → Type 0) (ms : List Mark) → ((m : Mark) → P m → Q m) → AllByRecursion P ms → AllByRecursion Q ms
+pub all_map : (P Q : Mark → Type 0) (ms : List Mark) → ((m : Mark) → P m → Q m) → AllByRecursion P ms
+    → AllByRecursion Q ms
 all_map P Q [] f h = tt
 all_map P Q (m ∷ ms) f h = (f m h.0, all_map P Q ms f h.1)
 
@@ -213,7 +231,9 @@ inserted_has : (ms ns : List Mark) (y : Mark) → In y ms ⊎ In y ns → In y (
 inserted_has ms [] y (inl h) = h
 inserted_has ms [] y (inr h) = absurd h
 inserted_has ms (n ∷ ns) y (inl h) = inserted_has (insert_key mark_cmp ms n) ns y (inl (in_old ms n y h))
-inserted_has ms (n ∷ ns) y (inr (inl e)) = inserted_has (insert_key mark_cmp ms n) ns y (inl (subst (λ z. In z (insert_key mark_cmp ms n)) (sym e) (in_new ms n)))
+inserted_has ms (n ∷ ns) y (inr (inl e)) =
+    inserted_has (insert_key mark_cmp ms n) ns y
+    (inl (subst (λ z. In z (insert_key mark_cmp ms n)) (sym e) (in_new ms n)))
 inserted_has ms (n ∷ ns) y (inr (inr h)) = inserted_has (insert_key mark_cmp ms n) ns y (inr h)
 
 -- nothing else is in
@@ -239,7 +259,8 @@ not_itself : (x y : Mark) → y ≡ x → mark_cmp x y ≡ Less → ⊥
 not_itself x y e l = let clash : Less ≡ Equal = sym l ∙ ap (mark_cmp x) e ∙ tied_itself marks_total x in cc
 
 -- two lists in strict order with the same members
-unique : (xs ys : List Mark) → Strict xs → Strict ys → ((m : Mark) → In m xs → In m ys) → ((m : Mark) → In m ys → In m xs) → xs ≡ ys
+unique : (xs ys : List Mark) → Strict xs → Strict ys → ((m : Mark) → In m xs → In m ys)
+    → ((m : Mark) → In m ys → In m xs) → xs ≡ ys
 unfolding IsStrictlySortedBy
 unique [] [] p q f g = refl
 unique [] (y ∷ ys) p q f g = absurd (g y (inl refl))
@@ -249,8 +270,10 @@ unique (x ∷ xs) (y ∷ ys) p q f g =
       | inl e ↦ e
       | inr h ↦ elim (g y (inl refl)) [ inl e ↦ sym e | inr k ↦ absurd (not_both x y (in_all (λ z. mark_cmp x z ≡ Less) xs y p.0 k) (in_all (λ z. mark_cmp y z ≡ Less) ys x q.0 h)) ]
     ] in
-    let there = λ (m : Mark) (h : In m xs). elim (f m (inr h)) as (λ _. In m ys) [ inl e ↦ absurd (not_itself x m (e ∙ sym same) (in_all (λ z. mark_cmp x z ≡ Less) xs m p.0 h)) | inr k ↦ k ] in
-    let back = λ (m : Mark) (h : In m ys). elim (g m (inr h)) as (λ _. In m xs) [ inl e ↦ absurd (not_itself y m (e ∙ same) (in_all (λ z. mark_cmp y z ≡ Less) ys m q.0 h)) | inr k ↦ k ] in
+    let there =
+    λ (m : Mark) (h : In m xs). elim (f m (inr h)) as (λ _. In m ys) [ inl e ↦ absurd (not_itself x m (e ∙ sym same) (in_all (λ z. mark_cmp x z ≡ Less) xs m p.0 h)) | inr k ↦ k ] in
+    let back =
+    λ (m : Mark) (h : In m ys). elim (g m (inr h)) as (λ _. In m xs) [ inl e ↦ absurd (not_itself y m (e ∙ same) (in_all (λ z. mark_cmp y z ≡ Less) ys m q.0 h)) | inr k ↦ k ] in
     ap (λ z. z ∷ xs) same ∙ ap (λ zs. y ∷ zs) (unique xs ys p.1 q.1 there back)
 
 -- ---- what was sorted is in strict order
@@ -260,15 +283,18 @@ abbrev one_number : Mark → Mark → Bool
 one_number x y = eqb x.2 y.2
 
 -- a lesser number is none of these
-numbers_above : (skip i : ℕ) (m : Mark) (ks : List (List ℕ)) → m.2 < i → AllByRecursion (λ y. one_number m y ≡ false) (numbered skip i ks)
+numbers_above : (skip i : ℕ) (m : Mark) (ks : List (List ℕ)) → m.2 < i
+    → AllByRecursion (λ y. one_number m y ≡ false) (numbered skip i ks)
 numbers_above skip i m [] l = tt
-numbers_above skip i m (k ∷ ks) l = (ne_eqb m.2 i (λ e. omega (arith, e, l)), numbers_above skip (suc i) m ks (omega (arith, l)))
+numbers_above skip i m (k ∷ ks) l =
+    (ne_eqb m.2 i (λ e. omega (arith, e, l)), numbers_above skip (suc i) m ks (omega (arith, l)))
 
 -- no two keys have one number
 numbers_differ : (skip i : ℕ) (ks : List (List ℕ)) → IsDistinct one_number (numbered skip i ks)
 unfolding IsDistinct
 numbers_differ skip i [] = tt
-numbers_differ skip i (k ∷ ks) = (numbers_above skip (suc i) (front_after skip k, k, i) ks (omega arith), numbers_differ skip (suc i) ks)
+numbers_differ skip i (k ∷ ks) =
+    (numbers_above skip (suc i) (front_after skip k, k, i) ks (omega arith), numbers_differ skip (suc i) ks)
 
 -- equality of numbers is symmetric
 eqb_flips : (m n : ℕ) → eqb m n ≡ eqb n m
@@ -278,7 +304,8 @@ eqb_flips m n = elim (eqb m n) as (λ b. eqb m n ≡ b → b ≡ eqb n m) [
 ] refl
 
 -- neighbours have two numbers
-distinct_at : (ms : List Mark) (k : ℕ) (d : Mark) → IsDistinct one_number ms → k + 1 < length ms → one_number (get_or ms k d) (get_or ms (k + 1) d) ≡ false
+distinct_at : (ms : List Mark) (k : ℕ) (d : Mark) → IsDistinct one_number ms → k + 1 < length ms
+    → one_number (get_or ms k d) (get_or ms (k + 1) d) ≡ false
 unfolding IsDistinct
 distinct_at [] k d h l = let never : ⊥ = omega (arith, l) in absurd never
 distinct_at (x ∷ []) k d h l = let never : ⊥ = omega (arith, l) in absurd never
@@ -306,8 +333,11 @@ module _ (skip : ℕ) (ks : List (List ℕ)) (ms : List Mark) (moved : IsPermuta
   -- sorted marks are in strict order
   strict_sorted : Strict ms
   strict_sorted =
-      let d = IsDistinct-IsPermutation one_number (λ x y. eqb_flips x.2 y.2) (numbered skip 0 ks) ms moved (numbers_differ skip 0 ks) in
-      sorted_from_all_adjacent marks_total ms (0, [], 0) (λ k l. rises (get_or ms k (0, [], 0)) (get_or ms (k + 1) (0, [], 0)) (up k (0, [], 0) (omega arith) l) (distinct_at ms k (0, [], 0) d l))
+      let d =
+      IsDistinct-IsPermutation one_number (λ x y. eqb_flips x.2 y.2) (numbered skip 0 ks) ms moved
+      (numbers_differ skip 0 ks) in
+      sorted_from_all_adjacent marks_total ms (0, [], 0)
+      (λ k l. rises (get_or ms k (0, [], 0)) (get_or ms (k + 1) (0, [], 0)) (up k (0, [], 0) (omega arith) l) (distinct_at ms k (0, [], 0) d l))
 
   -- members are in
   all_in : (xs ys : List Mark) → ((y : Mark) → In y xs → In y ys) → AllByRecursion (λ y. In y ys) xs
@@ -316,7 +346,9 @@ module _ (skip : ℕ) (ks : List (List ℕ)) (ms : List Mark) (moved : IsPermuta
 
   -- a permutation has no other members
   moves : (xs ys : List Mark) → IsPermutation xs ys → (y : Mark) → In y ys → In y xs
-  moves xs ys p y = in_all (λ y. In y xs) ys y (recursion_from_All (λ y. In y xs) ys (All-permutation (λ y. In y xs) xs ys p (All-from_recursion (λ y. In y xs) xs (all_in xs xs (λ y h. h)))))
+  moves xs ys p y =
+      in_all (λ y. In y xs) ys y
+      (recursion_from_All (λ y. In y xs) ys (All-permutation (λ y. In y xs) xs ys p (All-from_recursion (λ y. In y xs) xs (all_in xs xs (λ y h. h)))))
 
   -- sorted marks are those inserted one by one
   pub sorted_is : ms ≡ inserted [] (numbered skip 0 ks)
@@ -338,7 +370,9 @@ all_bytes (k ∷ ks) h = (
 )
 
 -- what was cut and sorted is in order
-pub in_key_order : (skip : ℕ) (ks : List (List ℕ)) (bytes lens : List ℕ) (keys sorted : List Lent) → StandIn ks bytes lens → Bytes bytes → SharesFront skip ks → marks keys ≡ numbered skip 0 ks → IsPermutation keys sorted → IsSorted lent_cmp sorted → IsKeyOrder ks (marks sorted)
+pub in_key_order : (skip : ℕ) (ks : List (List ℕ)) (bytes lens : List ℕ) (keys sorted : List Lent)
+    → StandIn ks bytes lens → Bytes bytes → SharesFront skip ks → marks keys ≡ numbered skip 0 ks
+    → IsPermutation keys sorted → IsSorted lent_cmp sorted → IsKeyOrder ks (marks sorted)
 in_key_order skip ks bytes lens keys sorted stand b shared h moved up =
     record {
       skip = skip;

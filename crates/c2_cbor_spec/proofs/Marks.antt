@@ -1,16 +1,14 @@
 -- Sorted keys show the first that equals one before it.
 use Rattle.std.proofs.Common.{◌≡◌, ℕ, zero, suc, ◌+◌, ◌-◌, ◌<◌, ◌≤◌, Bool, true, false, ltb, min, List, [], ◌∷◌, ◌++◌}
 use Rattle.std.proofs.Common.{length, get_or, Option, Some, None, take, drop, length-take-le, append_assoc}
-use Rattle.std.proofs.Common.{append-nil, length-append, All, Contains, IsPermutation, IsSorted, IsTrue, is_lt, refl}
+use Rattle.std.proofs.Common.{append-nil, length-append, All, Contains, IsPermutation, IsSorted, is_lt, refl}
 use Rattle.std.proofs.Common.{sym, ap, subst, ◌∙◌, ◌⊎◌, inl, inr, ltb-true, ltb-false, arith}
 use denote.Ref.{Bor}
 use Rattle.std.specs.Ordering.{nat_cmp, ordering_then, ordering_reverse}
 use Rattle.std.specs.declared.cmp.Ordering.{Ordering}
-use Rattle.std.specs.declared.cmp.Ordering.TheVariants.{Less, Equal, Greater}
 use Rattle.std.specs.Cmp.{IsTotalOrder, IsStrictWeakOrder, then_total, on_total, tied_itself, ranks}
 use Rattle.std.specs.Cmp.Lexicographic.{slice_cmp}
 use Rattle.std.specs.FinMap.{nat_cmp-IsAntisymmetric, slice_cmp-IsAntisymmetric}
-use Rattle.std.specs.Ordering.{MatchOrdering}
 use Rattle.std.proofs.lemmas.Cmp.{nat_cmp_total, nat_list_cmp_total}
 use Rattle.std.proofs.lemmas.List.{get_or-map, get_or_default, length-map, map_push, take_more, drop_more}
 use Rattle.std.proofs.Math.Seq.{take-append_seam, drop-append_seam}
@@ -21,6 +19,7 @@ use Rattle.c2_cbor_spec.specs.Reading.{is_known}
 use Rattle.c2_cbor_spec.specs.Tracking.{spelled, first_known, first_equal}
 use Rattle.c2_cbor_spec.specs.Marks.{flat, lengths, StandIn, front_of, front_after, Mark, mark_of, marks, numbered, mark_cmp, IsKeyOrder, mark_at, Repeats, RepeatsAt, LeastRepeated, lesser_of}
 use Rattle.c2_cbor_spec.proofs.Tracks.{first_repeats, repeats_first}
+use Rattle.c2_lemmas.proofs.Numbers.{lifted, lowered, squeezed, tied_first}
 
 -- ---- the order of marks
 
@@ -30,55 +29,39 @@ lt x y = is_lt (mark_cmp x y)
 
 -- marks are totally ordered
 pub marks_total : IsTotalOrder mark_cmp
-marks_total = then_total (then_total (on_total (λ (m : Mark). m.0) nat_cmp_total) (on_total (λ (m : Mark). m.1) nat_list_cmp_total)) (on_total (λ (m : Mark). m.2) nat_cmp_total)
+marks_total =
+    then_total
+    (then_total (on_total (λ (m : Mark). m.0) nat_cmp_total) (on_total (λ (m : Mark). m.1) nat_list_cmp_total))
+    (on_total (λ (m : Mark). m.2) nat_cmp_total)
 
 -- so they can be sorted
 marks_weak : IsStrictWeakOrder lt
 marks_weak = ranks_by marks_total (λ (m : Mark). m)
 
--- an order that isn't less
-lifted : (o : Ordering) (m n : ℕ) → MatchOrdering o (m < n) (m ≡ n) (n < m) → is_lt o ≡ false → n ≤ m
-lifted Less m n h e = absurd cc
-lifted Equal m n h e = omega arith
-lifted Greater m n h e = omega arith
-
 -- a number that isn't less is at least the other
 not_less : (m n : ℕ) → is_lt (nat_cmp m n) ≡ false → n ≤ m
 not_less m n e = lifted (nat_cmp m n) m n (ranks m n) e
-
--- an order of a lesser number
-lowered : (o : Ordering) (m n : ℕ) → MatchOrdering o (m < n) (m ≡ n) (n < m) → m < n → is_lt o ≡ true
-lowered Less m n h l = refl
-lowered Equal m n h l = let never : ⊥ = omega arith in absurd never
-lowered Greater m n h l = let never : ⊥ = omega arith in absurd never
 
 -- a lesser number is less
 less : (m n : ℕ) → m < n → is_lt (nat_cmp m n) ≡ true
 less m n l = lowered (nat_cmp m n) m n (ranks m n) l
 
--- two ties leave the third order
-tied_first : (o p q : Ordering) → o ≡ Equal → p ≡ Equal → is_lt (ordering_then (ordering_then o p) q) ≡ is_lt q
-tied_first o p q e f = ap (λ x. is_lt (ordering_then (ordering_then x p) q)) e ∙ ap (λ x. is_lt (ordering_then x q)) f
-
 -- a mark comes before one that repeats it
 repeats_less : (x y : Mark) → Repeats x y → lt x y ≡ true
 repeats_less x y r =
     tied_first (nat_cmp x.0 y.0) (slice_cmp nat_cmp x.1 y.1) (nat_cmp x.2 y.2)
-    (ap (nat_cmp x.0) (sym r.0) ∙ tied_itself nat_cmp_total x.0) (ap (slice_cmp nat_cmp x.1) (sym r.1) ∙ tied_itself nat_list_cmp_total x.1) ∙ less x.2 y.2 r.2
-
--- what isn't less on either side is tied
-squeezed : (o p s t : Ordering) → is_lt (ordering_then (ordering_then o p) s) ≡ false → is_lt (ordering_then (ordering_then (ordering_reverse o) (ordering_reverse p)) t) ≡ false → (o ≡ Equal) × (p ≡ Equal) × (is_lt s ≡ false) × (is_lt t ≡ false)
-squeezed Less p s t e f = absurd cc
-squeezed Greater p s t e f = absurd cc
-squeezed Equal Less s t e f = absurd cc
-squeezed Equal Greater s t e f = absurd cc
-squeezed Equal Equal s t e f = (refl, refl, e, f)
+    (ap (nat_cmp x.0) (sym r.0) ∙ tied_itself nat_cmp_total x.0)
+    (ap (slice_cmp nat_cmp x.1) (sym r.1) ∙ tied_itself nat_list_cmp_total x.1)
+    ∙ less x.2 y.2 r.2
 
 -- what stands between two marks of one key
-between : (a b c : Mark) → a.0 ≡ c.0 → a.1 ≡ c.1 → lt b a ≡ false → lt c b ≡ false → (a.0 ≡ b.0) × (a.1 ≡ b.1) × (a.2 ≤ b.2) × (b.2 ≤ c.2)
+between : (a b c : Mark) → a.0 ≡ c.0 → a.1 ≡ c.1 → lt b a ≡ false → lt c b ≡ false
+    → (a.0 ≡ b.0) × (a.1 ≡ b.1) × (a.2 ≤ b.2) × (b.2 ≤ c.2)
 between a b c e f p q =
-    let back0 : nat_cmp c.0 b.0 ≡ ordering_reverse (nat_cmp b.0 a.0) = ap (λ x. nat_cmp x b.0) (sym e) ∙ nat_cmp_total.antisymm a.0 b.0 in
-    let back1 : slice_cmp nat_cmp c.1 b.1 ≡ ordering_reverse (slice_cmp nat_cmp b.1 a.1) = ap (λ x. slice_cmp nat_cmp x b.1) (sym f) ∙ nat_list_cmp_total.antisymm a.1 b.1 in
+    let back0 : nat_cmp c.0 b.0 ≡ ordering_reverse (nat_cmp b.0 a.0) =
+    ap (λ x. nat_cmp x b.0) (sym e) ∙ nat_cmp_total.antisymm a.0 b.0 in
+    let back1 : slice_cmp nat_cmp c.1 b.1 ≡ ordering_reverse (slice_cmp nat_cmp b.1 a.1) =
+    ap (λ x. slice_cmp nat_cmp x b.1) (sym f) ∙ nat_list_cmp_total.antisymm a.1 b.1 in
     let q2 : is_lt (ordering_then (ordering_then (ordering_reverse (nat_cmp b.0 a.0)) (ordering_reverse (slice_cmp nat_cmp b.1 a.1))) (nat_cmp c.2 b.2)) ≡ false =
     ap (λ x. is_lt (ordering_then (ordering_then x (ordering_reverse (slice_cmp nat_cmp b.1 a.1))) (nat_cmp c.2 b.2))) (sym back0) ∙ ap (λ x. is_lt (ordering_then (ordering_then (nat_cmp c.0 b.0) x) (nat_cmp c.2 b.2))) (sym back1) ∙ q in
     let all = squeezed (nat_cmp b.0 a.0) (slice_cmp nat_cmp b.1 a.1) (nat_cmp b.2 a.2) (nat_cmp c.2 b.2) p q2 in
@@ -86,7 +69,8 @@ between a b c e f p q =
 
 module _ (ms : List Mark) (up : IsSorted mark_cmp ms) where
   -- two marks of one key have one between them that repeats the one before it
-  repeats_between : (n i j : ℕ) → j ≡ i + n → j < length ms → Repeats (mark_at ms i) (mark_at ms j) → (k : ℕ) × (suc k < length ms) × RepeatsAt ms k × ((mark_at ms (suc k)).2 ≤ (mark_at ms j).2)
+  repeats_between : (n i j : ℕ) → j ≡ i + n → j < length ms → Repeats (mark_at ms i) (mark_at ms j)
+      → (k : ℕ) × (suc k < length ms) × RepeatsAt ms k × ((mark_at ms (suc k)).2 ≤ (mark_at ms j).2)
   repeats_between zero i j e l r =
       let same : j ≡ i = omega (arith, e) in
       let rises : (mark_at ms i).2 < (mark_at ms i).2 = subst (λ x. (mark_at ms i).2 < (mark_at ms x).2) same r.2 in
@@ -119,21 +103,26 @@ numbered_len skip i [] = refl
 numbered_len skip i (k ∷ ks) = ap suc (numbered_len skip (suc i) ks)
 
 -- the p-th mark
-numbered_at : (skip i : ℕ) (ks : List (List ℕ)) (p : ℕ) → p < length ks → mark_at (numbered skip i ks) p ≡ (front_after skip (get_or ks p []), get_or ks p [], i + p)
+numbered_at : (skip i : ℕ) (ks : List (List ℕ)) (p : ℕ) → p < length ks
+    → mark_at (numbered skip i ks) p ≡ (front_after skip (get_or ks p []), get_or ks p [], i + p)
 numbered_at skip i [] p l = let never : ⊥ = omega (arith, l) in absurd never
 numbered_at skip i (k ∷ ks) zero l = let e : i ≡ i + 0 = omega arith in ap (λ n. (front_after skip k, k, n)) e
 numbered_at skip i (k ∷ ks) (suc p) l =
     let e : suc i + p ≡ i + suc p = omega arith in
-    numbered_at skip (suc i) ks p (omega (arith, l)) ∙ ap (λ n. (front_after skip (get_or ks p []), get_or ks p [], n)) e
+    numbered_at skip (suc i) ks p (omega (arith, l))
+    ∙ ap (λ n. (front_after skip (get_or ks p []), get_or ks p [], n)) e
 
 -- the same, counted from 0
-marked : (skip : ℕ) (ks : List (List ℕ)) (p : ℕ) → p < length ks → mark_at (numbered skip 0 ks) p ≡ (front_after skip (get_or ks p []), get_or ks p [], p)
+marked : (skip : ℕ) (ks : List (List ℕ)) (p : ℕ) → p < length ks
+    → mark_at (numbered skip 0 ks) p ≡ (front_after skip (get_or ks p []), get_or ks p [], p)
 marked skip ks p l = let e : 0 + p ≡ p = omega arith in numbered_at skip 0 ks p l ∙ ap (λ n. (front_after skip (get_or ks p []), get_or ks p [], n)) e
 
 -- one more key
-pub numbered_push : (skip i n : ℕ) (ks : List (List ℕ)) (k : List ℕ) → n ≡ i + length ks → numbered skip i (ks ++ k ∷ []) ≡ numbered skip i ks ++ (front_after skip k, k, n) ∷ []
+pub numbered_push : (skip i n : ℕ) (ks : List (List ℕ)) (k : List ℕ) → n ≡ i + length ks
+    → numbered skip i (ks ++ k ∷ []) ≡ numbered skip i ks ++ (front_after skip k, k, n) ∷ []
 numbered_push skip i n [] k e = let same : i ≡ n = omega (arith, e) in ap (λ m. (front_after skip k, k, m) ∷ []) same
-numbered_push skip i n (x ∷ ks) k e = ap (λ ms. (front_after skip x, x, i) ∷ ms) (numbered_push skip (suc i) n ks k (omega (arith, e)))
+numbered_push skip i n (x ∷ ks) k e =
+    ap (λ ms. (front_after skip x, x, i) ∷ ms) (numbered_push skip (suc i) n ks k (omega (arith, e)))
 
 module _ (skip : ℕ) (ks : List (List ℕ)) where
   -- a mark of these keys
@@ -152,14 +141,18 @@ module _ (skip : ℕ) (ks : List (List ℕ)) where
     mark_is i l = All-permutation IsMark (numbered skip 0 ks) ms moved all_marks i (0, [], 0) l
 
     -- each key has its mark
-    pub stands : (p : ℕ) → p < length ks → (i : ℕ) × (i < length ms) × (mark_at ms i ≡ (front_after skip (get_or ks p []), get_or ks p [], p))
+    pub stands : (p : ℕ) → p < length ks
+        → (i : ℕ) × (i < length ms) × (mark_at ms i ≡ (front_after skip (get_or ks p []), get_or ks p [], p))
     stands p l =
         let lp : p < length (numbered skip 0 ks) = omega (arith, l, numbered_len skip 0 ks) in
-        let c : Contains ms (mark_at (numbered skip 0 ks) p) = All-permutation (Contains ms) ms (numbered skip 0 ks) (IsPermutation-sym (numbered skip 0 ks) ms moved) (All-contains_itself ms) p (0, [], 0) lp in
+        let c : Contains ms (mark_at (numbered skip 0 ks) p) =
+        All-permutation (Contains ms) ms (numbered skip 0 ks) (IsPermutation-sym (numbered skip 0 ks) ms moved)
+        (All-contains_itself ms) p (0, [], 0) lp in
         (c.0, c.1, get_or_default ms c.0 (0, [], 0) (mark_at (numbered skip 0 ks) p) c.1 ∙ c.2 ∙ marked skip ks p l)
 
     -- where two keys are equal, a mark repeats the one before it
-    pub shows : (p q : ℕ) → p < q → q < length ks → get_or ks p [] ≡ get_or ks q [] → (k : ℕ) × (suc k < length ms) × RepeatsAt ms k × ((mark_at ms (suc k)).2 ≤ q)
+    pub shows : (p q : ℕ) → p < q → q < length ks → get_or ks p [] ≡ get_or ks q []
+        → (k : ℕ) × (suc k < length ms) × RepeatsAt ms k × ((mark_at ms (suc k)).2 ≤ q)
     shows p q l m e =
         let a = stands p (omega (arith, l, m)) in
         let b = stands q m in
@@ -173,7 +166,8 @@ module _ (skip : ℕ) (ks : List (List ℕ)) where
         (k.0, k.1, k.2, omega (arith, k.3, ap (λ x. x.2) b.2))
 
     -- a mark that repeats the one before it has a key that equals an earlier one
-    shown : (k : ℕ) → suc k < length ms → RepeatsAt ms k → (j : ℕ) × (first_known [] 0 ks ≡ Some j) × (j ≤ (mark_at ms (suc k)).2)
+    shown : (k : ℕ) → suc k < length ms → RepeatsAt ms k
+        → (j : ℕ) × (first_known [] 0 ks ≡ Some j) × (j ≤ (mark_at ms (suc k)).2)
     shown k l r =
         let x = mark_is k (omega (arith, l)) in
         let y = mark_is (suc k) l in
@@ -181,7 +175,8 @@ module _ (skip : ℕ) (ks : List (List ℕ)) where
         (j.0, j.1, omega (arith, j.2))
 
     -- where a key equals one before it, the scan finds one no later
-    shows_first : (j : ℕ) → first_known [] 0 ks ≡ Some j → (k : ℕ) × (suc k < length ms) × RepeatsAt ms k × ((mark_at ms (suc k)).2 ≤ j)
+    shows_first : (j : ℕ) → first_known [] 0 ks ≡ Some j
+        → (k : ℕ) × (suc k < length ms) × RepeatsAt ms k × ((mark_at ms (suc k)).2 ≤ j)
     shows_first j e =
         let f = first_repeats [] 0 j ks e in
         elim f.3 [
@@ -229,7 +224,8 @@ lent_at ms i d l = sym (get_or-map mark_of ms i d (0, [], 0) l)
 -- ---- one more mark
 
 -- one more mark that repeats none
-pub least_skip : (ms : List Mark) (m n : ℕ) (r : Option ℕ) → n ≡ m + 1 → (RepeatsAt ms m → ⊥) → LeastRepeated ms n r → LeastRepeated ms (n + 1) r
+pub least_skip : (ms : List Mark) (m n : ℕ) (r : Option ℕ) → n ≡ m + 1 → (RepeatsAt ms m → ⊥) → LeastRepeated ms n r
+    → LeastRepeated ms (n + 1) r
 least_skip ms m n None e not h = λ i l r. elim (ltb (suc i) n) as (λ b. ltb (suc i) n ≡ b → ⊥) [
   | true ↦ λ t. h i (ltb-true (suc i) n t) r
   | false ↦ λ t. let same : i ≡ m = omega (arith, e, l, ltb-false (suc i) n t) in not (subst (RepeatsAt ms) same r)
@@ -243,7 +239,8 @@ least_skip ms m n (Some k) e not h = (
 )
 
 -- one more mark that repeats the one before it
-pub least_take : (ms : List Mark) (m n : ℕ) (r : Option ℕ) (k : ℕ) → n ≡ m + 1 → RepeatsAt ms m → k ≡ (mark_at ms (suc m)).2 → LeastRepeated ms n r → LeastRepeated ms (n + 1) (Some (lesser_of r k))
+pub least_take : (ms : List Mark) (m n : ℕ) (r : Option ℕ) (k : ℕ) → n ≡ m + 1 → RepeatsAt ms m
+    → k ≡ (mark_at ms (suc m)).2 → LeastRepeated ms n r → LeastRepeated ms (n + 1) (Some (lesser_of r k))
 least_take ms m n None k e here is h = (
   (m, omega (arith, e), here, is),
   λ i l r. elim (ltb (suc i) n) as (λ b. ltb (suc i) n ≡ b → k ≤ (mark_at ms (suc i)).2) [
@@ -265,14 +262,6 @@ least_take ms m n (Some j) k e here is h =
 
 -- ---- what the code does
 
--- what a test says where it is true
-pub said : (b : Bool) (P : Type 0) → (IsTrue b → P) → b ≡ true → P
-said b P f e = f e
-
--- and where it is false
-pub unsaid : (b : Bool) (P : Type 0) → (P → IsTrue b) → b ≡ false → P → ⊥
-unsaid b P f e p = let clash : true ≡ false = sym (f p) ∙ e in cc
-
 module _ (ks : List Lent) (n : ℕ) (d : Lent) (r : Option ℕ) (lo : 1 ≤ n) (hi : n < length ks) where
   -- the mark before the n-th
   one_on : n ≡ suc (n - 1)
@@ -287,18 +276,25 @@ module _ (ks : List Lent) (n : ℕ) (d : Lent) (r : Option ℕ) (lo : 1 ≤ n) (
   here_y = lent_at ks n d hi ∙ ap (mark_at (marks ks)) one_on
 
   -- the scan takes a repeated mark
-  pub lent_take : (k : ℕ) → Repeats (mark_of (get_or ks (n - 1) d)) (mark_of (get_or ks n d)) → k ≡ (get_or ks n d).2 → LeastRepeated (marks ks) n r → LeastRepeated (marks ks) (n + 1) (Some (lesser_of r k))
+  pub lent_take : (k : ℕ) → Repeats (mark_of (get_or ks (n - 1) d)) (mark_of (get_or ks n d)) → k ≡ (get_or ks n d).2
+      → LeastRepeated (marks ks) n r → LeastRepeated (marks ks) (n + 1) (Some (lesser_of r k))
   lent_take k rep e h =
-      least_take (marks ks) (n - 1) n r k (omega (arith, lo)) (subst (λ m. Repeats (mark_at (marks ks) (n - 1)) m) here_y (subst (λ m. Repeats m (mark_of (get_or ks n d))) here_x rep)) (e ∙ ap (λ m. m.2) here_y) h
+      least_take (marks ks) (n - 1) n r k (omega (arith, lo))
+      (subst (λ m. Repeats (mark_at (marks ks) (n - 1)) m) here_y (subst (λ m. Repeats m (mark_of (get_or ks n d))) here_x rep))
+      (e ∙ ap (λ m. m.2) here_y) h
 
   -- the scan passes a mark
-  pub lent_skip : (Repeats (mark_of (get_or ks (n - 1) d)) (mark_of (get_or ks n d)) → ⊥) → LeastRepeated (marks ks) n r → LeastRepeated (marks ks) (n + 1) r
+  pub lent_skip : (Repeats (mark_of (get_or ks (n - 1) d)) (mark_of (get_or ks n d)) → ⊥) → LeastRepeated (marks ks) n r
+      → LeastRepeated (marks ks) (n + 1) r
   lent_skip not h =
-      least_skip (marks ks) (n - 1) n r (omega (arith, lo)) (λ rep. not (subst (λ m. Repeats m (mark_of (get_or ks n d))) (sym here_x) (subst (λ m. Repeats (mark_at (marks ks) (n - 1)) m) (sym here_y) rep))) h
+      least_skip (marks ks) (n - 1) n r (omega (arith, lo))
+      (λ rep. not (subst (λ m. Repeats m (mark_of (get_or ks n d))) (sym here_x) (subst (λ m. Repeats (mark_at (marks ks) (n - 1)) m) (sym here_y) rep)))
+      h
 
 -- what is cut off is the next key
 pub key_cut : (ks : List (List ℕ)) (lens rest left : List ℕ) (i n : ℕ) (k : List ℕ)
-    → i < length lens → n ≡ get_or lens i 0 → lens ≡ lengths ks → k ≡ take n rest → left ≡ drop n rest → rest ≡ flat (drop i ks)
+    → i < length lens → n ≡ get_or lens i 0 → lens ≡ lengths ks → k ≡ take n rest → left ≡ drop n rest
+    → rest ≡ flat (drop i ks)
     → (k ≡ get_or ks i []) × (left ≡ flat (drop (i + 1) ks))
 key_cut ks lens rest left i n k lt is all front back h =
     let x : List ℕ = get_or ks i [] in
@@ -311,8 +307,10 @@ key_cut ks lens rest left i n k lt is all front back h =
 
 -- a mark's key is cut off
 pub mark_cut : (skip : ℕ) (ms later : List Lent) (ks : List (List ℕ)) (lens rest left : List ℕ) (i n f : ℕ) (k : Bor (List ℕ)) (b : List ℕ)
-    → i < length lens → n ≡ get_or lens i 0 → lens ≡ lengths ks → later ≡ ms ++ (f, k, i) ∷ [] → k.now ≡ take n rest → left ≡ drop n rest → f ≡ front_of b → b ≡ drop skip k.now
-    → (rest ≡ flat (drop i ks)) × (marks ms ≡ numbered skip 0 (take i ks)) → (left ≡ flat (drop (i + 1) ks)) × (marks later ≡ numbered skip 0 (take (i + 1) ks))
+    → i < length lens → n ≡ get_or lens i 0 → lens ≡ lengths ks → later ≡ ms ++ (f, k, i) ∷ [] → k.now ≡ take n rest
+    → left ≡ drop n rest → f ≡ front_of b → b ≡ drop skip k.now
+    → (rest ≡ flat (drop i ks)) × (marks ms ≡ numbered skip 0 (take i ks))
+    → (left ≡ flat (drop (i + 1) ks)) × (marks later ≡ numbered skip 0 (take (i + 1) ks))
 mark_cut skip ms later ks lens rest left i n f k b lt is all put front back first same h =
     let x : List ℕ = get_or ks i [] in
     let c = key_cut ks lens rest left i n k.now lt is all front back h.0 in
@@ -321,7 +319,8 @@ mark_cut skip ms later ks lens rest left i n f k b lt is all put front back firs
     let number : f ≡ front_after skip x = first ∙ ap front_of (same ∙ ap (drop skip) c.0) in (
       c.1,
       ap marks put ∙ map_push mark_of ms (f, k, i) ∙ ap (λ l. l ++ (f, k.now, i) ∷ []) h.1
-          ∙ ap (λ y. numbered skip 0 (take i ks) ++ (y, k.now, i) ∷ []) number ∙ ap (λ y. numbered skip 0 (take i ks) ++ (front_after skip x, y, i) ∷ []) c.0
+          ∙ ap (λ y. numbered skip 0 (take i ks) ++ (y, k.now, i) ∷ []) number
+          ∙ ap (λ y. numbered skip 0 (take i ks) ++ (front_after skip x, y, i) ∷ []) c.0
           ∙ sym (numbered_push skip 0 i (take i ks) x long) ∙ ap (numbered skip 0) (sym (take_more ks i [] lk)),
     )
 
@@ -331,21 +330,28 @@ flat_push [] k = append-nil k
 flat_push (x ∷ xs) k = ap (λ y. x ++ y) (flat_push xs k) ∙ sym (append_assoc x (flat xs) k)
 
 -- the same of bytes and lengths
-pub spelled_on : (ks later : List (List ℕ)) (k old new lens lens2 : List ℕ) (n : ℕ) → later ≡ ks ++ k ∷ [] → new ≡ old ++ k → lens2 ≡ lens ++ n ∷ [] → n ≡ length new - length old
+pub spelled_on : (ks later : List (List ℕ)) (k old new lens lens2 : List ℕ) (n : ℕ) → later ≡ ks ++ k ∷ []
+    → new ≡ old ++ k → lens2 ≡ lens ++ n ∷ [] → n ≡ length new - length old
     → StandIn ks old lens → StandIn later new lens2
 spelled_on ks later k old new lens lens2 n same put more count h =
     let len : n ≡ length k = omega (arith, count, ap length put, length-append old k) in
     record {
       flat = put ∙ ap (λ x. x ++ k) h.flat ∙ sym (flat_push ks k) ∙ ap flat (sym same);
-      lengths = more ∙ ap (λ x. x ++ n ∷ []) h.lengths ∙ ap (λ x. lengths ks ++ x ∷ []) len ∙ sym (map_push (λ k. length k) ks k) ∙ ap lengths (sym same);
+      lengths =
+          more ∙ ap (λ x. x ++ n ∷ []) h.lengths ∙ ap (λ x. lengths ks ++ x ∷ []) len
+          ∙ sym (map_push (λ k. length k) ks k) ∙ ap lengths (sym same);
     }
 
 -- what the scan of sorted keys finds is the first equal key
-pub sorted_first : (ps : List (Cbor × Cbor)) (ks s : List Lent) (r : Option ℕ) → IsKeyOrder (spelled ps) (marks ks) → s ≡ ks → LeastRepeated (marks s) (length s) r → r ≡ first_equal ps
+pub sorted_first : (ps : List (Cbor × Cbor)) (ks s : List Lent) (r : Option ℕ) → IsKeyOrder (spelled ps) (marks ks)
+    → s ≡ ks → LeastRepeated (marks s) (length s) r → r ≡ first_equal ps
 sorted_first ps ks s r o same h =
-    let here : LeastRepeated (marks ks) (length (marks ks)) r = subst (λ n. LeastRepeated (marks ks) n r) (sym (length-map ks mark_of)) (subst (λ l. LeastRepeated (marks l) (length l) r) same h) in
+    let here : LeastRepeated (marks ks) (length (marks ks)) r =
+    subst (λ n. LeastRepeated (marks ks) n r) (sym (length-map ks mark_of))
+    (subst (λ l. LeastRepeated (marks l) (length l) r) same h) in
     least_is_first o.skip (spelled ps) (marks ks) o.moved o.up r here
 
 -- the same of lists that are equal
-pub stand_moved : (ks : List (List ℕ)) (bytes lens bytes2 lens2 : List ℕ) → bytes2 ≡ bytes → lens2 ≡ lens → StandIn ks bytes lens → StandIn ks bytes2 lens2
+pub stand_moved : (ks : List (List ℕ)) (bytes lens bytes2 lens2 : List ℕ) → bytes2 ≡ bytes → lens2 ≡ lens
+    → StandIn ks bytes lens → StandIn ks bytes2 lens2
 stand_moved ks bytes lens bytes2 lens2 e f s = record { flat = e ∙ s.flat; lengths = f ∙ s.lengths }

@@ -25,7 +25,8 @@ lower a b no_pairs e h = tt
 lower a b (pair k v ps) e h = (λ f. h.0 (nat_list_cmp_total.trans (preferred k) a b f e), lower a b ps e h.1)
 
 -- one more pair that isn't less
-none_insert : (b : List ℕ) (ps : Pairs) (k v : Item) → NoneBelow b ps → (cmp (preferred k) b ≡ Less → ⊥) → NoneBelow b (insert_pair ps k v)
+none_insert : (b : List ℕ) (ps : Pairs) (k v : Item) → NoneBelow b ps → (cmp (preferred k) b ≡ Less → ⊥)
+    → NoneBelow b (insert_pair ps k v)
 none_insert b no_pairs k v h n = (n, tt)
 none_insert b (pair l w ps) k v h n = elim (cmp (preferred k) (preferred l)) as (λ o. NoneBelow b (match_ordering o (pair k v (pair l w ps)) (pair l w (insert_pair ps k v)) (pair l w (insert_pair ps k v)))) [
   | Less ↦ (n, h)
@@ -45,7 +46,8 @@ insert_rises (pair l w ps) k v h = elim (cmp (preferred k) (preferred l)) as (λ
 -- so do all
 pub sorted_rise : (ps before : Pairs) → KeysRise before → KeysRise (sorted_pairs ps before)
 sorted_rise no_pairs before h = h
-sorted_rise (pair k v ps) before h = sorted_rise ps (insert_pair before (sorted k) (sorted v)) (insert_rises before (sorted k) (sorted v) h)
+sorted_rise (pair k v ps) before h =
+    sorted_rise ps (insert_pair before (sorted k) (sorted v)) (insert_rises before (sorted k) (sorted v) h)
 
 -- ---- pairs stay
 
@@ -69,7 +71,8 @@ then_nothing no_pairs = refl
 then_nothing (pair k v ps) = ap (pair k v) (then_nothing ps)
 
 -- those of both
-with_then : (b : List ℕ) (ps qs : Pairs) → pairs_with b (then_pairs ps qs) ≡ then_pairs (pairs_with b ps) (pairs_with b qs)
+with_then : (b : List ℕ) (ps qs : Pairs)
+    → pairs_with b (then_pairs ps qs) ≡ then_pairs (pairs_with b ps) (pairs_with b qs)
 with_then b no_pairs qs = refl
 with_then b (pair k v ps) qs = elim (bytes_eq (preferred k) b) as (λ t. cond t (pair k v (pairs_with b (then_pairs ps qs))) (pairs_with b (then_pairs ps qs)) ≡ then_pairs (cond t (pair k v (pairs_with b ps)) (pairs_with b ps)) (pairs_with b qs)) [
   | true ↦ ap (pair k v) (with_then b ps qs)
@@ -89,18 +92,22 @@ not_itself : (a : List ℕ) → cmp a a ≡ Less → ⊥
 not_itself a e = not_below a a e e
 
 -- a pair before greater ones might stand at their end
-with_first : (b : List ℕ) (k v l w : Item) (ps : Pairs) → cmp (preferred k) (preferred l) ≡ Less → NoneBelow (preferred l) ps → pairs_with b (pair k v (pair l w ps)) ≡ then_pairs (pairs_with b (pair l w ps)) (pairs_with b (pair k v no_pairs))
+with_first : (b : List ℕ) (k v l w : Item) (ps : Pairs) → cmp (preferred k) (preferred l) ≡ Less
+    → NoneBelow (preferred l) ps
+    → pairs_with b (pair k v (pair l w ps)) ≡ then_pairs (pairs_with b (pair l w ps)) (pairs_with b (pair k v no_pairs))
 with_first b k v l w ps e h = elim (bytes_eq (preferred k) b) as (λ t. bytes_eq (preferred k) b ≡ t → cond t (pair k v (pairs_with b (pair l w ps))) (pairs_with b (pair l w ps)) ≡ then_pairs (pairs_with b (pair l w ps)) (cond t (pair k v no_pairs) no_pairs)) [
   | true ↦ λ f.
       let same : preferred k ≡ b = (bytes_decides (preferred k) b).0 f in
       let less : cmp b (preferred l) ≡ Less = ap (λ x. cmp x (preferred l)) (sym same) ∙ e in
-      let none : pairs_with b (pair l w ps) ≡ no_pairs = none_with b (preferred l) (pair l w ps) less (not_itself (preferred l), h) in
+      let none : pairs_with b (pair l w ps) ≡ no_pairs =
+      none_with b (preferred l) (pair l w ps) less (not_itself (preferred l), h) in
       ap (pair k v) none ∙ sym (ap (λ qs. then_pairs qs (pair k v no_pairs)) none)
   | false ↦ λ f. sym (then_nothing (pairs_with b (pair l w ps)))
 ] refl
 
 -- inserting a pair is putting it at the end, as far as keys with the same bytes go
-insert_with : (b : List ℕ) (ps : Pairs) (k v : Item) → KeysRise ps → pairs_with b (insert_pair ps k v) ≡ pairs_with b (push ps k v)
+insert_with : (b : List ℕ) (ps : Pairs) (k v : Item) → KeysRise ps
+    → pairs_with b (insert_pair ps k v) ≡ pairs_with b (push ps k v)
 insert_with b no_pairs k v h = refl
 insert_with b (pair l w ps) k v h = elim (cmp (preferred k) (preferred l)) as (λ o. cmp (preferred k) (preferred l) ≡ o → pairs_with b (match_ordering o (pair k v (pair l w ps)) (pair l w (insert_pair ps k v)) (pair l w (insert_pair ps k v))) ≡ pairs_with b (push (pair l w ps) k v)) [
   | Less ↦ λ e. with_first b k v l w ps e h.0 ∙ sym (with_then b (pair l w ps) (pair k v no_pairs))
@@ -109,7 +116,8 @@ insert_with b (pair l w ps) k v h = elim (cmp (preferred k) (preferred l)) as (�
 ] refl
 
 -- pairs with the same bytes stay
-pub sorted_stay : (b : List ℕ) (ps before : Pairs) → KeysRise before → pairs_with b (sorted_pairs ps before) ≡ pairs_with b (then_pairs before (each_sorted ps))
+pub sorted_stay : (b : List ℕ) (ps before : Pairs) → KeysRise before
+    → pairs_with b (sorted_pairs ps before) ≡ pairs_with b (then_pairs before (each_sorted ps))
 sorted_stay b no_pairs before h = ap (pairs_with b) (sym (then_nothing before))
 sorted_stay b (pair k v ps) before h =
     sorted_stay b ps (insert_pair before (sorted k) (sorted v)) (insert_rises before (sorted k) (sorted v) h)

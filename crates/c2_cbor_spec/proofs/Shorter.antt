@@ -24,7 +24,8 @@ under_if n true x y p q = p
 under_if n false x y p q = q
 
 -- where each of two steps leaves fewer bytes, both together do
-pub under_bind : {A B : Type 0} (n m : ℕ) (r : Read A) (f : A × List ℕ → Read B) → Under n r → ((x : A × List ℕ) → length x.1 < n → Under m (f x)) → Under m (r >>= f)
+pub under_bind : {A B : Type 0} (n m : ℕ) (r : Read A) (f : A × List ℕ → Read B) → Under n r
+    → ((x : A × List ℕ) → length x.1 < n → Under m (f x)) → Under m (r >>= f)
 under_bind n m (Ok x) f p q = q x p
 under_bind n m (Err e) f p q = tt
 
@@ -54,7 +55,8 @@ argument_at-under at a s =
 -- reading a count leaves no more bytes
 count_at-under : (at a : ℕ) (s : List ℕ) → Under (suc (length s)) (count_at at a s)
 unfolding count_at
-count_at-under at a s = under_if _ (a == 31) _ _ (omega arith) (under_bind _ _ (argument_at at a s) _ (argument_at-under at a s) (λ x h. h))
+count_at-under at a s =
+    under_if _ (a == 31) _ _ (omega arith) (under_bind _ _ (argument_at at a s) _ (argument_at-under at a s) (λ x h. h))
 
 -- reading a head of major type 7 leaves no more bytes after the first
 major_7-under : (at a : ℕ) (s : List ℕ) → Under (suc (length s)) (major_7 at a s)
@@ -86,7 +88,8 @@ head_at-under (b ∷ s) = head_of-under (length (b ∷ s)) (b / 32) (b % 32) s
 -- reading a string leaves no more bytes
 pub string_at-under : (ok : List ℕ → Bool) (at n : ℕ) (s : List ℕ) → Under (suc (length s)) (string_at ok at n s)
 unfolding string_at
-string_at-under ok at n s = under_if _ (nat_lt (length s) n) _ _ tt (under_if _ (ok (take n s)) _ _ (omega (arith, length-drop n s)) tt)
+string_at-under ok at n s =
+    under_if _ (nat_lt (length s) n) _ _ tt (under_if _ (ok (take n s)) _ _ (omega (arith, length-drop n s)) tt)
 
 -- reading the head of a chunk takes a byte
 chunk_head-under : (m : ℕ) (s : List ℕ) → Under (length s) (chunk_head m s)
@@ -97,7 +100,8 @@ chunk_head-under m (b ∷ s) =
     (under_if _ ((b / 32 == m) && nat_lt (b % 32) 28) _ _ (under_bind _ _ (argument_at (length (b ∷ s)) (b % 32) s) _ (argument_at-under (length (b ∷ s)) (b % 32) s) (λ x h. h)) tt)
 
 -- reading the bytes of a chunk leaves no more bytes
-chunk_body-under : (ok : List ℕ → Bool) (at : ℕ) (n : Option ℕ) (s : List ℕ) → Under (suc (length s)) (chunk_body ok at n s)
+chunk_body-under : (ok : List ℕ → Bool) (at : ℕ) (n : Option ℕ) (s : List ℕ)
+    → Under (suc (length s)) (chunk_body ok at n s)
 chunk_body-under ok at None s = omega arith
 chunk_body-under ok at (Some n) s = under_bind _ _ (string_at ok at n s) _ (string_at-under ok at n s) (λ x h. h)
 
@@ -109,7 +113,9 @@ under_more n m (Err e) h p = tt
 -- reading a chunk takes a byte
 pub chunk_at-under : (ok : List ℕ → Bool) (m : ℕ) (s : List ℕ) → Under (length s) (chunk_at ok m s)
 unfolding chunk_at
-chunk_at-under ok m s = under_bind _ _ (chunk_head m s) _ (chunk_head-under m s) (λ x h. under_more _ _ _ h (chunk_body-under ok (length s) x.0 x.1))
+chunk_at-under ok m s =
+    under_bind _ _ (chunk_head m s) _ (chunk_head-under m s)
+    (λ x h. under_more _ _ _ h (chunk_body-under ok (length s) x.0 x.1))
 
 -- reading chunks takes a byte
 pub chunks-under : (ok : List ℕ → Bool) (m n : ℕ) (s : List ℕ) → Under (length s) (chunks ok m n s)
@@ -142,7 +148,8 @@ ended-shorter counts.Open (b ∷ s) r e = elim (b == 255) as (λ t. cond t (Some
 ] e
 
 -- reading items leaves no more bytes
-pub items-under : (value : List ℕ → Read Item) → Shrinks value → (n : ℕ) (c : Count) (s : List ℕ) → Under (suc (length s)) (items value n c s)
+pub items-under : (value : List ℕ → Read Item) → Shrinks value → (n : ℕ) (c : Count) (s : List ℕ)
+    → Under (suc (length s)) (items value n c s)
 unfolding items
 items-under value h zero c s = tt
 items-under value h (suc n) c s =
@@ -152,7 +159,8 @@ items-under value h (suc n) c s =
     ] refl
 
 -- reading pairs leaves no more bytes
-pub pairs-under : (known : Known) (value : List ℕ → Read Item) → Shrinks value → (n : ℕ) (c : Count) (seen : List (List ℕ)) (s : List ℕ) → Under (suc (length s)) (pairs known value n c seen s)
+pub pairs-under : (known : Known) (value : List ℕ → Read Item) → Shrinks value
+    → (n : ℕ) (c : Count) (seen : List (List ℕ)) (s : List ℕ) → Under (suc (length s)) (pairs known value n c seen s)
 unfolding pairs
 pairs-under known value h zero c seen s = tt
 pairs-under known value h (suc n) c seen s =
@@ -165,15 +173,25 @@ pairs-under known value h (suc n) c seen s =
     ] refl
 
 -- reading what follows a head leaves no more bytes
-body-under : (known : Known) (value : List ℕ → Read Item) → Shrinks value → (at : ℕ) (h : Head) (s : List ℕ) → Under (suc (length s)) (body known value at h s)
+body-under : (known : Known) (value : List ℕ → Read Item) → Shrinks value → (at : ℕ) (h : Head) (s : List ℕ)
+    → Under (suc (length s)) (body known value at h s)
 body-under known value p at (heads.Uint n) s = omega arith
 body-under known value p at (heads.Nint n) s = omega arith
-body-under known value p at (heads.Bytes n) s = under_bind _ _ (string_at any_bytes at n s) _ (string_at-under any_bytes at n s) (λ x h. h)
-body-under known value p at heads.ByteChunks s = under_bind _ _ (chunks any_bytes 2 (suc (length s)) s) _ (chunks-under any_bytes 2 (suc (length s)) s) (λ x h. omega arith)
-body-under known value p at (heads.Text n) s = under_bind _ _ (string_at is_utf8 at n s) _ (string_at-under is_utf8 at n s) (λ x h. h)
-body-under known value p at heads.TextChunks s = under_bind _ _ (chunks is_utf8 3 (suc (length s)) s) _ (chunks-under is_utf8 3 (suc (length s)) s) (λ x h. omega arith)
-body-under known value p at (heads.List c) s = under_bind _ _ (items value (suc (length s)) c s) _ (items-under value p (suc (length s)) c s) (λ x h. h)
-body-under known value p at (heads.Map c) s = under_bind _ _ (pairs known value (suc (length s)) c [] s) _ (pairs-under known value p (suc (length s)) c [] s) (λ x h. h)
+body-under known value p at (heads.Bytes n) s =
+    under_bind _ _ (string_at any_bytes at n s) _ (string_at-under any_bytes at n s) (λ x h. h)
+body-under known value p at heads.ByteChunks s =
+    under_bind _ _ (chunks any_bytes 2 (suc (length s)) s) _ (chunks-under any_bytes 2 (suc (length s)) s)
+    (λ x h. omega arith)
+body-under known value p at (heads.Text n) s =
+    under_bind _ _ (string_at is_utf8 at n s) _ (string_at-under is_utf8 at n s) (λ x h. h)
+body-under known value p at heads.TextChunks s =
+    under_bind _ _ (chunks is_utf8 3 (suc (length s)) s) _ (chunks-under is_utf8 3 (suc (length s)) s)
+    (λ x h. omega arith)
+body-under known value p at (heads.List c) s =
+    under_bind _ _ (items value (suc (length s)) c s) _ (items-under value p (suc (length s)) c s) (λ x h. h)
+body-under known value p at (heads.Map c) s =
+    under_bind _ _ (pairs known value (suc (length s)) c [] s) _ (pairs-under known value p (suc (length s)) c [] s)
+    (λ x h. h)
 body-under known value p at (heads.Tag n) s = under_bind _ _ (value s) _ (p s) (λ x h. omega arith)
 body-under known value p at (heads.Simple a) s = omega arith
 body-under known value p at (heads.Half n) s = omega arith
@@ -185,4 +203,6 @@ pub item_at-under : (known : Known) (levels : ℕ) → Shrinks (item_at known le
 unfolding item_at
 item_at-under known zero [] = tt
 item_at-under known zero (b ∷ s) = tt
-item_at-under known (suc d) s = under_bind _ _ (head_at s) _ (head_at-under s) (λ x h. under_more _ _ _ h (body-under known (item_at known d) (item_at-under known d) (length s) x.0 x.1))
+item_at-under known (suc d) s =
+    under_bind _ _ (head_at s) _ (head_at-under s)
+    (λ x h. under_more _ _ _ h (body-under known (item_at known d) (item_at-under known d) (length s) x.0 x.1))

@@ -18,6 +18,7 @@ use Rattle.c2_cbor_spec.specs.declared.head.Head.TheVariants as heads
 use Rattle.c2_cbor_spec.specs.Reading.{Read, ◌>>=◌, argument_at, head_at, string_at, chunk_head, chunk_body, chunk_at, chunks_step, chunks, ended, fewer, items_step, items, Known, known_step, with_key, pairs_step, pairs, body, item_at}
 use Rattle.c2_spec.specs.Cbor.Spelling.{any_bytes}
 use Rattle.c2_cbor_spec.proofs.Heads.{AreBytes, rest_bytes, bind_ok, chosen, Found, first_is, rest_is, failed, argument_takes, argument_head, CountSpells, HeadSpells, head_takes}
+use Rattle.c2_lemmas.proofs.Bools.{both_true}
 
 -- what follows a part of bytes is bytes
 pub rest_of : (s x r : List ℕ) → s ≡ x ++ r → AreBytes s → AreBytes r
@@ -26,7 +27,8 @@ rest_of s x r e h = rest_bytes x r (subst AreBytes e h)
 -- ---- strings
 
 -- a string that is read passes its test, has its length, and is the first bytes
-pub string_takes : (ok : List ℕ → Bool) (at n : ℕ) (s b r : List ℕ) → string_at ok at n s ≡ Ok (b, r) → (ok b ≡ true) × (length b ≡ n) × (s ≡ b ++ r)
+pub string_takes : (ok : List ℕ → Bool) (at n : ℕ) (s b r : List ℕ) → string_at ok at n s ≡ Ok (b, r)
+    → (ok b ≡ true) × (length b ≡ n) × (s ≡ b ++ r)
 unfolding string_at
 string_takes ok at n s b r e =
     elim (chosen (ltb (length s) n) _ _ _ e) [
@@ -42,7 +44,8 @@ string_takes ok at n s b r e =
     ]
 
 -- a string behind its head
-string_found : (ok : List ℕ → Bool) (m n at : ℕ) (s h s1 b r : List ℕ) → IsHead m n h → s ≡ h ++ s1 → string_at ok at n s1 ≡ Ok (b, r) → Found (IsString ok m b) s r
+string_found : (ok : List ℕ → Bool) (m n at : ℕ) (s h s1 b r : List ℕ) → IsHead m n h → s ≡ h ++ s1
+    → string_at ok at n s1 ≡ Ok (b, r) → Found (IsString ok m b) s r
 string_found ok m n at s h s1 b r is e f =
     let t = string_takes ok at n s1 b r f in
     (h ++ b, (h, subst (λ k. IsHead m k h) (sym t.1) is, t.0, refl), e ∙ ap (λ x. h ++ x) t.2 ∙ sym (append_assoc h b r))
@@ -52,13 +55,9 @@ abbrev pub ChunkHead : ℕ → Option ℕ → List ℕ → List ℕ → Type 0
 ChunkHead m None s r = s ≡ 255 ∷ r
 ChunkHead m (Some n) s r = Found (IsHead m n) s r
 
--- of two conditions that both hold each holds
-both : (a b : Bool) → (a && b) ≡ true → (a ≡ true) × (b ≡ true)
-both true b e = (refl, e)
-both false b e = absurd cc
-
 -- the head of a chunk that is read is there
-pub chunk_head_takes : (m : ℕ) (s : List ℕ) (o : Option ℕ) (r : List ℕ) → AreBytes s → chunk_head m s ≡ Ok (o, r) → ChunkHead m o s r
+pub chunk_head_takes : (m : ℕ) (s : List ℕ) (o : Option ℕ) (r : List ℕ) → AreBytes s → chunk_head m s ≡ Ok (o, r)
+    → ChunkHead m o s r
 unfolding chunk_head
 chunk_head_takes m [] o r fits e = absurd (failed _ _ e)
 chunk_head_takes m (b ∷ s) o r fits e =
@@ -68,7 +67,7 @@ chunk_head_takes m (b ∷ s) o r fits e =
         | inl q ↦
             let a = bind_ok (argument_at (length (b ∷ s)) (b % 32) s) (λ n. Ok (Some n.0, n.1)) (o, r) q.1 in
             let f = argument_takes (length (b ∷ s)) (b % 32) s a.0.0 a.0.1 fits.1 a.1 in
-            let major : b / 32 ≡ m = eqb-true (b / 32) m (both _ _ q.0).0 in
+            let major : b / 32 ≡ m = eqb-true (b / 32) m (both_true _ _ q.0).0 in
             let same : 32 * m + b % 32 ≡ b = omega arith in
             subst (λ u. ChunkHead m u (b ∷ s) r) (first_is _ _ _ _ a.2)
             (b ∷ f.0, subst (λ k. IsHead m a.0.0 (k ∷ f.0)) same (argument_head m (b % 32) a.0.0 f.0 f.1), ap (λ t. b ∷ t) (f.2 ∙ ap (λ t. f.0 ++ t) (rest_is _ _ _ _ a.2)))
@@ -82,15 +81,18 @@ Chunk ok m None s r = s ≡ 255 ∷ r
 Chunk ok m (Some c) s r = Found (IsString ok m c) s r
 
 -- a chunk whose head and bytes are read is there
-chunk_body_takes : (ok : List ℕ → Bool) (m at : ℕ) (n : Option ℕ) (s s1 : List ℕ) (o : Option (List ℕ)) (r : List ℕ) → ChunkHead m n s s1 → chunk_body ok at n s1 ≡ Ok (o, r) → Chunk ok m o s r
-chunk_body_takes ok m at None s s1 o r h e = subst (λ q. Chunk ok m q s r) (first_is _ _ _ _ e) (h ∙ ap (λ t. 255 ∷ t) (rest_is _ _ _ _ e))
+chunk_body_takes : (ok : List ℕ → Bool) (m at : ℕ) (n : Option ℕ) (s s1 : List ℕ) (o : Option (List ℕ)) (r : List ℕ)
+    → ChunkHead m n s s1 → chunk_body ok at n s1 ≡ Ok (o, r) → Chunk ok m o s r
+chunk_body_takes ok m at None s s1 o r h e =
+    subst (λ q. Chunk ok m q s r) (first_is _ _ _ _ e) (h ∙ ap (λ t. 255 ∷ t) (rest_is _ _ _ _ e))
 chunk_body_takes ok m at (Some n) s s1 o r h e =
     let b = bind_ok (string_at ok at n s1) (λ p. Ok (Some p.0, p.1)) (o, r) e in
     let f = string_found ok m n at s h.0 s1 b.0.0 b.0.1 h.1 h.2 b.1 in
     subst (λ q. Chunk ok m q s r) (first_is _ _ _ _ b.2) (f.0, f.1, f.2 ∙ ap (λ t. f.0 ++ t) (rest_is _ _ _ _ b.2))
 
 -- a chunk that is read is there
-pub chunk_takes : (ok : List ℕ → Bool) (m : ℕ) (s : List ℕ) (o : Option (List ℕ)) (r : List ℕ) → AreBytes s → chunk_at ok m s ≡ Ok (o, r) → Chunk ok m o s r
+pub chunk_takes : (ok : List ℕ → Bool) (m : ℕ) (s : List ℕ) (o : Option (List ℕ)) (r : List ℕ) → AreBytes s
+    → chunk_at ok m s ≡ Ok (o, r) → Chunk ok m o s r
 unfolding chunk_at
 chunk_takes ok m s o r fits e =
     let b = bind_ok (chunk_head m s) (λ h. chunk_body ok (length s) h.0 h.1) (o, r) e in
@@ -101,9 +103,12 @@ abbrev pub Chunks : (List ℕ → Bool) → ℕ → List ℕ → List ℕ → Li
 Chunks ok m b s r = (cs : List (List ℕ)) × (t : List ℕ) × AreChunks ok m cs t × (b ≡ joined cs) × (s ≡ t ++ (255 ∷ r))
 
 -- the same of the chunks after one that was read
-chunks_step_takes : (ok : List ℕ → Bool) (m n : ℕ) → ((s b r : List ℕ) → AreBytes s → chunks ok m n s ≡ Ok (b, r) → Chunks ok m b s r)
-    → (s : List ℕ) (o : Option (List ℕ)) (s1 b r : List ℕ) → AreBytes s → Chunk ok m o s s1 → chunks_step (chunks ok m n) o s1 ≡ Ok (b, r) → Chunks ok m b s r
-chunks_step_takes ok m n ih s None s1 b r fits h e = ([], [], refl, sym (first_is _ _ _ _ e), h ∙ ap (λ t. 255 ∷ t) (rest_is _ _ _ _ e))
+chunks_step_takes : (ok : List ℕ → Bool) (m n : ℕ)
+    → ((s b r : List ℕ) → AreBytes s → chunks ok m n s ≡ Ok (b, r) → Chunks ok m b s r)
+    → (s : List ℕ) (o : Option (List ℕ)) (s1 b r : List ℕ) → AreBytes s → Chunk ok m o s s1
+    → chunks_step (chunks ok m n) o s1 ≡ Ok (b, r) → Chunks ok m b s r
+chunks_step_takes ok m n ih s None s1 b r fits h e =
+    ([], [], refl, sym (first_is _ _ _ _ e), h ∙ ap (λ t. 255 ∷ t) (rest_is _ _ _ _ e))
 chunks_step_takes ok m n ih s (Some c) s1 b r fits h e =
     let q = bind_ok (chunks ok m n s1) (λ q. Ok (c ++ q.0, q.1)) (b, r) e in
     let t = ih s1 q.0.0 q.0.1 (rest_of s h.0 s1 h.2 fits) q.1 in (
@@ -115,7 +120,8 @@ chunks_step_takes ok m n ih s (Some c) s1 b r fits h e =
     )
 
 -- chunks that are read are there
-pub chunks_takes : (ok : List ℕ → Bool) (m n : ℕ) (s b r : List ℕ) → AreBytes s → chunks ok m n s ≡ Ok (b, r) → Chunks ok m b s r
+pub chunks_takes : (ok : List ℕ → Bool) (m n : ℕ) (s b r : List ℕ) → AreBytes s → chunks ok m n s ≡ Ok (b, r)
+    → Chunks ok m b s r
 unfolding chunks
 chunks_takes ok m zero s b r fits e = absurd (failed _ _ e)
 chunks_takes ok m (suc n) s b r fits e =
@@ -123,8 +129,11 @@ chunks_takes ok m (suc n) s b r fits e =
     chunks_step_takes ok m n (chunks_takes ok m n) s c.0.0 c.0.1 b r fits (chunk_takes ok m s c.0.0 c.0.1 fits c.1) c.2
 
 -- a string in chunks, with what opens and closes it
-chunked : (m : ℕ) (s x s1 t r1 r : List ℕ) → x ≡ opening m ∷ [] → s ≡ x ++ s1 → s1 ≡ t ++ (255 ∷ r1) → r1 ≡ r → s ≡ (opening m ∷ (t ++ 255 ∷ [])) ++ r
-chunked m s x s1 t r1 r p e f g = e ∙ ap (λ y. y ++ s1) p ∙ ap (λ y. opening m ∷ y) (f ∙ ap (λ y. t ++ (255 ∷ y)) g ∙ sym (append_assoc t (255 ∷ []) r))
+chunked : (m : ℕ) (s x s1 t r1 r : List ℕ) → x ≡ opening m ∷ [] → s ≡ x ++ s1 → s1 ≡ t ++ (255 ∷ r1) → r1 ≡ r
+    → s ≡ (opening m ∷ (t ++ 255 ∷ [])) ++ r
+chunked m s x s1 t r1 r p e f g =
+    e ∙ ap (λ y. y ++ s1) p
+    ∙ ap (λ y. opening m ∷ y) (f ∙ ap (λ y. t ++ (255 ∷ y)) g ∙ sym (append_assoc t (255 ∷ []) r))
 
 -- ---- lists and maps
 
@@ -173,14 +182,16 @@ closing-fewer (counts.Left n) r = refl
 closing-fewer counts.Open r = refl
 
 -- the brackets round the members
-brackets_takes : (m : ℕ) (c : Count) (n : ℕ) (P : List ℕ → Type 0) (s x s1 y r : List ℕ) → CountSpells m c x → Counts c n → P y → s ≡ x ++ s1 → s1 ≡ y ++ closing c r → Found (InBrackets m n P) s r
+brackets_takes : (m : ℕ) (c : Count) (n : ℕ) (P : List ℕ → Type 0) (s x s1 y r : List ℕ) → CountSpells m c x
+    → Counts c n → P y → s ≡ x ++ s1 → s1 ≡ y ++ closing c r → Found (InBrackets m n P) s r
 brackets_takes m (counts.Left k) n P s x s1 y r h count p e f =
     (x ++ y, inl (x, y, subst (λ j. IsHead m j x) count h, p, refl), e ∙ ap (λ t. x ++ t) f ∙ sym (append_assoc x y r))
 brackets_takes m counts.Open n P s x s1 y r h count p e f =
     (opening m ∷ (y ++ 255 ∷ []), inr (y, p, refl), e ∙ ap (λ t. t ++ s1) h ∙ ap (λ t. opening m ∷ t) (f ∙ sym (append_assoc y (255 ∷ []) r)))
 
 -- where reading goes on after a key, the key is new
-known_step_takes : (b : Bool) (at : ℕ) (more : Read (List (Item × Item))) (y : List (Item × Item) × List ℕ) → known_step b at more ≡ Ok y → (b ≡ false) × (more ≡ Ok y)
+known_step_takes : (b : Bool) (at : ℕ) (more : Read (List (Item × Item))) (y : List (Item × Item) × List ℕ)
+    → known_step b at more ≡ Ok y → (b ≡ false) × (more ≡ Ok y)
 known_step_takes true at more y e = absurd (failed _ _ e)
 known_step_takes false at more y e = (refl, e)
 
@@ -232,13 +243,18 @@ module _ (known : Known) where
         (record {
           front = one.spelled.0 ++ more.front;
           spelled = (one.spelled.0, more.front, one.spelled.1, more.spelled, refl);
-          parts = one.spelled.2 ∙ ap (λ t. one.spelled.0 ++ t) (more.parts ∙ ap (λ t. more.front ++ t) (closing-fewer c q.0.1 ∙ ap (closing c) (rest_is _ _ _ _ q.2))) ∙ sym (append_assoc one.spelled.0 more.front (closing c r));
+          parts =
+              one.spelled.2
+              ∙ ap (λ t. one.spelled.0 ++ t)
+              (more.parts ∙ ap (λ t. more.front ++ t) (closing-fewer c q.0.1 ∙ ap (closing c) (rest_is _ _ _ _ q.2)))
+              ∙ sym (append_assoc one.spelled.0 more.front (closing c r));
           count = counts_more c s _ end more.count;
           shallow = omega (arith, one.shallow, more.shallow);
           keyed = (one.keyed, more.keyed);
         })
 
-    items_takes : (n : ℕ) (c : Count) (s : List ℕ) (vs : List Item) (r : List ℕ) → AreBytes s → items value n c s ≡ Ok (vs, r) → ReadsItems levels c s (items_of vs) r
+    items_takes : (n : ℕ) (c : Count) (s : List ℕ) (vs : List Item) (r : List ℕ) → AreBytes s
+        → items value n c s ≡ Ok (vs, r) → ReadsItems levels c s (items_of vs) r
     unfolding items
     items_takes zero c s vs r fits e = absurd (failed _ _ e)
     items_takes (suc n) c s vs r fits e = items_step_takes n (items_takes n) c s (ended c s) vs r refl fits e
@@ -253,14 +269,27 @@ module _ (known : Known) where
         subst (λ ws. ReadsPairs levels c seen s (pairs_of ws) r) (first_is _ _ _ _ e)
         (record { front = []; spelled = refl; parts = t.0 ∙ ap (closing c) (rest_is _ _ _ _ e); count = t.1; shallow = omega arith; keyed = tt; unknown = tt })
     pairs_step_takes n ih c seen s None ps r end fits e =
-        let k = bind_ok (value s) (λ k. known_step (known (preferred k.0) seen) (length s) (value k.1 >>= λ v. pairs known value n (fewer c) (with_key seen (preferred k.0)) v.1 >>= λ q. Ok ((k.0, v.0) ∷ q.0, q.1))) (ps, r) e in
+        let k =
+        bind_ok (value s)
+        (λ k. known_step (known (preferred k.0) seen) (length s) (value k.1 >>= λ v. pairs known value n (fewer c) (with_key seen (preferred k.0)) v.1 >>= λ q. Ok ((k.0, v.0) ∷ q.0, q.1)))
+        (ps, r) e in
         let one = reader s k.0.0 k.0.1 fits k.1 in
         let fits1 = rest_of s one.spelled.0 k.0.1 one.spelled.2 fits in
-        let new = known_step_takes (known (preferred k.0.0) seen) (length s) (value k.0.1 >>= λ v. pairs known value n (fewer c) (with_key seen (preferred k.0.0)) v.1 >>= λ q. Ok ((k.0.0, v.0) ∷ q.0, q.1)) (ps, r) k.2 in
-        let v = bind_ok (value k.0.1) (λ v. pairs known value n (fewer c) (with_key seen (preferred k.0.0)) v.1 >>= λ q. Ok ((k.0.0, v.0) ∷ q.0, q.1)) (ps, r) new.1 in
+        let new =
+        known_step_takes (known (preferred k.0.0) seen) (length s)
+        (value k.0.1 >>= λ v. pairs known value n (fewer c) (with_key seen (preferred k.0.0)) v.1 >>= λ q. Ok ((k.0.0, v.0) ∷ q.0, q.1))
+        (ps, r) k.2 in
+        let v =
+        bind_ok (value k.0.1)
+        (λ v. pairs known value n (fewer c) (with_key seen (preferred k.0.0)) v.1 >>= λ q. Ok ((k.0.0, v.0) ∷ q.0, q.1))
+        (ps, r) new.1 in
         let two = reader k.0.1 v.0.0 v.0.1 fits1 v.1 in
-        let q = bind_ok (pairs known value n (fewer c) (with_key seen (preferred k.0.0)) v.0.1) (λ q. Ok ((k.0.0, v.0.0) ∷ q.0, q.1)) (ps, r) v.2 in
-        let more = ih (fewer c) (with_key seen (preferred k.0.0)) v.0.1 q.0.0 q.0.1 (rest_of k.0.1 two.spelled.0 v.0.1 two.spelled.2 fits1) q.1 in
+        let q =
+        bind_ok (pairs known value n (fewer c) (with_key seen (preferred k.0.0)) v.0.1)
+        (λ q. Ok ((k.0.0, v.0.0) ∷ q.0, q.1)) (ps, r) v.2 in
+        let more =
+        ih (fewer c) (with_key seen (preferred k.0.0)) v.0.1 q.0.0 q.0.1
+        (rest_of k.0.1 two.spelled.0 v.0.1 two.spelled.2 fits1) q.1 in
         subst (λ ws. ReadsPairs levels c seen s (pairs_of ws) r) (first_is _ _ _ _ q.2)
         (record {
           front = one.spelled.0 ++ (two.spelled.0 ++ more.front);
@@ -273,56 +302,75 @@ module _ (known : Known) where
           unknown = (new.0, more.unknown);
         })
 
-    pairs_takes : (n : ℕ) (c : Count) (seen : List (List ℕ)) (s : List ℕ) (ps : List (Item × Item)) (r : List ℕ) → AreBytes s → pairs known value n c seen s ≡ Ok (ps, r) → ReadsPairs levels c seen s (pairs_of ps) r
+    pairs_takes : (n : ℕ) (c : Count) (seen : List (List ℕ)) (s : List ℕ) (ps : List (Item × Item)) (r : List ℕ)
+        → AreBytes s → pairs known value n c seen s ≡ Ok (ps, r) → ReadsPairs levels c seen s (pairs_of ps) r
     unfolding pairs
     pairs_takes zero c seen s ps r fits e = absurd (failed _ _ e)
     pairs_takes (suc n) c seen s ps r fits e = pairs_step_takes n (pairs_takes n) c seen s (ended c s) ps r refl fits e
 
   -- what follows a head: spelled together with the head
-  body_takes : (levels : ℕ) (value : List ℕ → Read Item) → IsReader levels value → (at : ℕ) (h : Head) (s x s1 : List ℕ) (v : Item) (r : List ℕ) → AreBytes s1 → HeadSpells h x → s ≡ x ++ s1 → body known value at h s1 ≡ Ok (v, r) → Reads (suc levels) s v r
+  body_takes : (levels : ℕ) (value : List ℕ → Read Item) → IsReader levels value
+      → (at : ℕ) (h : Head) (s x s1 : List ℕ) (v : Item) (r : List ℕ) → AreBytes s1 → HeadSpells h x → s ≡ x ++ s1
+      → body known value at h s1 ≡ Ok (v, r) → Reads (suc levels) s v r
   body_takes levels value reader at (heads.Uint n) s x s1 v r fits p e f =
-      subst (λ w. Reads (suc levels) s w r) (first_is _ _ _ _ f) (record { spelled = (x, p, e ∙ ap (λ t. x ++ t) (rest_is _ _ _ _ f)); shallow = omega arith; keyed = tt })
+      subst (λ w. Reads (suc levels) s w r) (first_is _ _ _ _ f)
+      (record { spelled = (x, p, e ∙ ap (λ t. x ++ t) (rest_is _ _ _ _ f)); shallow = omega arith; keyed = tt })
   body_takes levels value reader at (heads.Nint n) s x s1 v r fits p e f =
-      subst (λ w. Reads (suc levels) s w r) (first_is _ _ _ _ f) (record { spelled = (x, p, e ∙ ap (λ t. x ++ t) (rest_is _ _ _ _ f)); shallow = omega arith; keyed = tt })
+      subst (λ w. Reads (suc levels) s w r) (first_is _ _ _ _ f)
+      (record { spelled = (x, p, e ∙ ap (λ t. x ++ t) (rest_is _ _ _ _ f)); shallow = omega arith; keyed = tt })
   body_takes levels value reader at (heads.Bytes n) s x s1 v r fits p e f =
       let b = bind_ok (string_at any_bytes at n s1) (λ p. Ok (bytes p.0, p.1)) (v, r) f in
       let t = string_found any_bytes 2 n at s x s1 b.0.0 b.0.1 p e b.1 in
-      subst (λ w. Reads (suc levels) s w r) (first_is _ _ _ _ b.2) (record { spelled = (t.0, inl t.1, t.2 ∙ ap (λ y. t.0 ++ y) (rest_is _ _ _ _ b.2)); shallow = omega arith; keyed = tt })
+      subst (λ w. Reads (suc levels) s w r) (first_is _ _ _ _ b.2)
+      (record { spelled = (t.0, inl t.1, t.2 ∙ ap (λ y. t.0 ++ y) (rest_is _ _ _ _ b.2)); shallow = omega arith; keyed = tt })
   body_takes levels value reader at heads.ByteChunks s x s1 v r fits p e f =
       let b = bind_ok (chunks any_bytes 2 (suc (length s1)) s1) (λ p. Ok (bytes p.0, p.1)) (v, r) f in
       let t = chunks_takes any_bytes 2 (suc (length s1)) s1 b.0.0 b.0.1 fits b.1 in
-      subst (λ w. Reads (suc levels) s w r) (first_is _ _ _ _ b.2) (record { spelled = (opening 2 ∷ (t.1 ++ 255 ∷ []), inr (t.0, t.1, t.2, t.3, refl), chunked 2 s x s1 t.1 b.0.1 r p e t.4 (rest_is _ _ _ _ b.2)); shallow = omega arith; keyed = tt })
+      subst (λ w. Reads (suc levels) s w r) (first_is _ _ _ _ b.2)
+      (record { spelled = (opening 2 ∷ (t.1 ++ 255 ∷ []), inr (t.0, t.1, t.2, t.3, refl), chunked 2 s x s1 t.1 b.0.1 r p e t.4 (rest_is _ _ _ _ b.2)); shallow = omega arith; keyed = tt })
   body_takes levels value reader at (heads.Text n) s x s1 v r fits p e f =
       let b = bind_ok (string_at is_utf8 at n s1) (λ p. Ok (text p.0, p.1)) (v, r) f in
       let t = string_found is_utf8 3 n at s x s1 b.0.0 b.0.1 p e b.1 in
-      subst (λ w. Reads (suc levels) s w r) (first_is _ _ _ _ b.2) (record { spelled = (t.0, inl t.1, t.2 ∙ ap (λ y. t.0 ++ y) (rest_is _ _ _ _ b.2)); shallow = omega arith; keyed = tt })
+      subst (λ w. Reads (suc levels) s w r) (first_is _ _ _ _ b.2)
+      (record { spelled = (t.0, inl t.1, t.2 ∙ ap (λ y. t.0 ++ y) (rest_is _ _ _ _ b.2)); shallow = omega arith; keyed = tt })
   body_takes levels value reader at heads.TextChunks s x s1 v r fits p e f =
       let b = bind_ok (chunks is_utf8 3 (suc (length s1)) s1) (λ p. Ok (text p.0, p.1)) (v, r) f in
       let t = chunks_takes is_utf8 3 (suc (length s1)) s1 b.0.0 b.0.1 fits b.1 in
-      subst (λ w. Reads (suc levels) s w r) (first_is _ _ _ _ b.2) (record { spelled = (opening 3 ∷ (t.1 ++ 255 ∷ []), inr (t.0, t.1, t.2, t.3, refl), chunked 3 s x s1 t.1 b.0.1 r p e t.4 (rest_is _ _ _ _ b.2)); shallow = omega arith; keyed = tt })
+      subst (λ w. Reads (suc levels) s w r) (first_is _ _ _ _ b.2)
+      (record { spelled = (opening 3 ∷ (t.1 ++ 255 ∷ []), inr (t.0, t.1, t.2, t.3, refl), chunked 3 s x s1 t.1 b.0.1 r p e t.4 (rest_is _ _ _ _ b.2)); shallow = omega arith; keyed = tt })
   body_takes levels value reader at (heads.List c) s x s1 v r fits p e f =
       let b = bind_ok (items value (suc (length s1)) c s1) (λ p. Ok (list (items_of p.0), p.1)) (v, r) f in
       let t = items_takes levels value reader (suc (length s1)) c s1 b.0.0 b.0.1 fits b.1 in
-      let found = brackets_takes 4 c (items_len (items_of b.0.0)) (SpellItems (items_of b.0.0)) s x s1 t.front b.0.1 p t.count t.spelled e t.parts in
-      subst (λ w. Reads (suc levels) s w r) (first_is _ _ _ _ b.2) (record { spelled = (found.0, found.1, found.2 ∙ ap (λ y. found.0 ++ y) (rest_is _ _ _ _ b.2)); shallow = omega (arith, t.shallow); keyed = t.keyed })
+      let found =
+      brackets_takes 4 c (items_len (items_of b.0.0)) (SpellItems (items_of b.0.0)) s x s1 t.front b.0.1 p
+      t.count t.spelled e t.parts in
+      subst (λ w. Reads (suc levels) s w r) (first_is _ _ _ _ b.2)
+      (record { spelled = (found.0, found.1, found.2 ∙ ap (λ y. found.0 ++ y) (rest_is _ _ _ _ b.2)); shallow = omega (arith, t.shallow); keyed = t.keyed })
   body_takes levels value reader at (heads.Map c) s x s1 v r fits p e f =
       let b = bind_ok (pairs known value (suc (length s1)) c [] s1) (λ p. Ok (dict (pairs_of p.0), p.1)) (v, r) f in
       let t = pairs_takes levels value reader (suc (length s1)) c [] s1 b.0.0 b.0.1 fits b.1 in
-      let found = brackets_takes 5 c (pairs_len (pairs_of b.0.0)) (SpellPairs (pairs_of b.0.0)) s x s1 t.front b.0.1 p t.count t.spelled e t.parts in
-      subst (λ w. Reads (suc levels) s w r) (first_is _ _ _ _ b.2) (record { spelled = (found.0, found.1, found.2 ∙ ap (λ y. found.0 ++ y) (rest_is _ _ _ _ b.2)); shallow = omega (arith, t.shallow); keyed = (t.keyed, t.unknown) })
+      let found =
+      brackets_takes 5 c (pairs_len (pairs_of b.0.0)) (SpellPairs (pairs_of b.0.0)) s x s1 t.front b.0.1 p
+      t.count t.spelled e t.parts in
+      subst (λ w. Reads (suc levels) s w r) (first_is _ _ _ _ b.2)
+      (record { spelled = (found.0, found.1, found.2 ∙ ap (λ y. found.0 ++ y) (rest_is _ _ _ _ b.2)); shallow = omega (arith, t.shallow); keyed = (t.keyed, t.unknown) })
   body_takes levels value reader at (heads.Tag n) s x s1 v r fits p e f =
       let b = bind_ok (value s1) (λ p. Ok (tag n p.0, p.1)) (v, r) f in
       let t = reader s1 b.0.0 b.0.1 fits b.1 in
       subst (λ w. Reads (suc levels) s w r) (first_is _ _ _ _ b.2)
       (record { spelled = (x ++ t.spelled.0, (x, t.spelled.0, p, t.spelled.1, refl), e ∙ ap (λ y. x ++ y) (t.spelled.2 ∙ ap (λ y. t.spelled.0 ++ y) (rest_is _ _ _ _ b.2)) ∙ sym (append_assoc x t.spelled.0 r)); shallow = omega (arith, t.shallow); keyed = t.keyed })
   body_takes levels value reader at (heads.Simple n) s x s1 v r fits p e f =
-      subst (λ w. Reads (suc levels) s w r) (first_is _ _ _ _ f) (record { spelled = (x, p, e ∙ ap (λ t. x ++ t) (rest_is _ _ _ _ f)); shallow = omega arith; keyed = tt })
+      subst (λ w. Reads (suc levels) s w r) (first_is _ _ _ _ f)
+      (record { spelled = (x, p, e ∙ ap (λ t. x ++ t) (rest_is _ _ _ _ f)); shallow = omega arith; keyed = tt })
   body_takes levels value reader at (heads.Half n) s x s1 v r fits p e f =
-      subst (λ w. Reads (suc levels) s w r) (first_is _ _ _ _ f) (record { spelled = (x, p, e ∙ ap (λ t. x ++ t) (rest_is _ _ _ _ f)); shallow = omega arith; keyed = tt })
+      subst (λ w. Reads (suc levels) s w r) (first_is _ _ _ _ f)
+      (record { spelled = (x, p, e ∙ ap (λ t. x ++ t) (rest_is _ _ _ _ f)); shallow = omega arith; keyed = tt })
   body_takes levels value reader at (heads.Single n) s x s1 v r fits p e f =
-      subst (λ w. Reads (suc levels) s w r) (first_is _ _ _ _ f) (record { spelled = (x, p, e ∙ ap (λ t. x ++ t) (rest_is _ _ _ _ f)); shallow = omega arith; keyed = tt })
+      subst (λ w. Reads (suc levels) s w r) (first_is _ _ _ _ f)
+      (record { spelled = (x, p, e ∙ ap (λ t. x ++ t) (rest_is _ _ _ _ f)); shallow = omega arith; keyed = tt })
   body_takes levels value reader at (heads.Double n) s x s1 v r fits p e f =
-      subst (λ w. Reads (suc levels) s w r) (first_is _ _ _ _ f) (record { spelled = (x, p, e ∙ ap (λ t. x ++ t) (rest_is _ _ _ _ f)); shallow = omega arith; keyed = tt })
+      subst (λ w. Reads (suc levels) s w r) (first_is _ _ _ _ f)
+      (record { spelled = (x, p, e ∙ ap (λ t. x ++ t) (rest_is _ _ _ _ f)); shallow = omega arith; keyed = tt })
 
   -- an item that is read was spelled there
   pub item_takes : (levels : ℕ) → IsReader levels (item_at known levels)
@@ -332,4 +380,5 @@ module _ (known : Known) where
   item_takes (suc d) s v r fits e =
       let h = bind_ok (head_at s) (λ h. body known (item_at known d) (length s) h.0 h.1) (v, r) e in
       let t = head_takes s h.0.0 h.0.1 fits h.1 in
-      body_takes d (item_at known d) (item_takes d) (length s) h.0.0 s t.0 h.0.1 v r (rest_of s t.0 h.0.1 t.2 fits) t.1 t.2 h.2
+      body_takes d (item_at known d) (item_takes d) (length s) h.0.0 s t.0 h.0.1 v r (rest_of s t.0 h.0.1 t.2 fits) t.1
+      t.2 h.2

@@ -1,5 +1,5 @@
 -- One list spells one item, no spelling begins another, and the keys that a reader takes to be new are distinct.
-use Rattle.std.proofs.Common.{◌≡◌, ℕ, ◌+◌, ◌*◌, ◌^◌, ◌<◌, ◌≤◌, Bool, true, false, cond, ltb, List, [], ◌∷◌, ◌++◌, length, Ok, refl, sym, ap, ◌∙◌, append_assoc, arith, inl, inr, ◌⊎◌}
+use Rattle.std.proofs.Common.{◌≡◌, ℕ, ◌+◌, ◌*◌, ◌^◌, ◌<◌, ◌≤◌, true, false, cond, ltb, List, [], ◌∷◌, ◌++◌, length, Ok, refl, sym, ap, ◌∙◌, append_assoc, arith, inl, inr, ◌⊎◌}
 use Rattle.std.specs.Int.{w16, w32, w64, to_be_bytes}
 use Rattle.std.proofs.lemmas.Bool.{ltb-true, lt-ltb, le-ltb}
 use Rattle.c2_spec.specs.Cbor.Item.{Item, uint, nint, bytes, text, list, dict, tag, simple, half, single, double, Items, no_items, item, Pairs, no_pairs, pair}
@@ -13,6 +13,7 @@ use Rattle.c2_cbor_spec.specs.Reading.{Known, is_known, with_key, item_at}
 use Rattle.c2_cbor_spec.proofs.Heads.{first_is, rest_is}
 use Rattle.c2_cbor_spec.proofs.Keys.{known_new, known_stays, known_other}
 use Rattle.c2_cbor_spec.proofs.Complete.{item_again}
+use Rattle.c2_lemmas.proofs.Bools.{true_not_false}
 
 -- ---- a reader that knows no key
 
@@ -62,7 +63,7 @@ one_spelling v w x y r s p q e =
 -- ---- an item that has a spelling is spelled by its preferred
 
 -- the shortest head of a number below 2^64 is a head of this number
-short_is : (m n : ℕ) → n < 2 ^ 64 → IsHead m n (shortest_head m n)
+pub short_is : (m n : ℕ) → n < 2 ^ 64 → IsHead m n (shortest_head m n)
 unfolding shortest_head
 short_is m n lt =
     elim (ltb n 24) as (λ b. ltb n 24 ≡ b → IsHead m n (cond b ((32 * m + n) ∷ [])
@@ -92,7 +93,8 @@ head_limit m n h (eight, p, e) = p
 -- the preferred bytes of a simple value spell it
 preferred_simple : (a : ℕ) → (a < 24) ⊎ ((32 ≤ a) × (a < 256)) → SpellsSimple a (simple_bytes a)
 preferred_simple a (inl p) = inl (p, ap (λ b. cond b ((224 + a) ∷ []) (248 ∷ a ∷ [])) (lt-ltb a 24 p))
-preferred_simple a (inr p) = inr (p.0, p.1, ap (λ b. cond b ((224 + a) ∷ []) (248 ∷ a ∷ [])) (le-ltb a 24 (omega (arith, p.0))))
+preferred_simple a (inr p) =
+    inr (p.0, p.1, ap (λ b. cond b ((224 + a) ∷ []) (248 ∷ a ∷ [])) (le-ltb a 24 (omega (arith, p.0))))
 
 mutual
   -- the preferred bytes of an item that has a spelling spell it
@@ -101,8 +103,12 @@ mutual
   preferred_spells (nint n) p = short_is 1 n p
   preferred_spells (bytes b) p = inl (shortest_head 2 (length b), short_is 2 (length b) p, refl, refl)
   preferred_spells (text t) p = inl (shortest_head 3 (length t), short_is 3 (length t) p.0, p.1, refl)
-  preferred_spells (list vs) p = inl (shortest_head 4 (items_len vs), preferred_items vs, short_is 4 (items_len vs) p.0, preferred_spell_items vs p.1, refl)
-  preferred_spells (dict ps) p = inl (shortest_head 5 (pairs_len ps), preferred_pairs ps, short_is 5 (pairs_len ps) p.0, preferred_spell_pairs ps p.1, refl)
+  preferred_spells (list vs) p =
+      inl
+      (shortest_head 4 (items_len vs), preferred_items vs, short_is 4 (items_len vs) p.0, preferred_spell_items vs p.1, refl)
+  preferred_spells (dict ps) p =
+      inl
+      (shortest_head 5 (pairs_len ps), preferred_pairs ps, short_is 5 (pairs_len ps) p.0, preferred_spell_pairs ps p.1, refl)
   preferred_spells (tag n v) p = (shortest_head 6 n, preferred v, short_is 6 n p.0, preferred_spells v p.1, refl)
   preferred_spells (simple a) p = preferred_simple a p
   preferred_spells (half n) p = (p, refl)
@@ -112,30 +118,30 @@ mutual
   -- the same of items one after the other
   preferred_spell_items : (vs : Items) → FineItems vs → SpellItems vs (preferred_items vs)
   preferred_spell_items no_items p = refl
-  preferred_spell_items (item v vs) p = (preferred v, preferred_items vs, preferred_spells v p.0, preferred_spell_items vs p.1, refl)
+  preferred_spell_items (item v vs) p =
+      (preferred v, preferred_items vs, preferred_spells v p.0, preferred_spell_items vs p.1, refl)
 
   -- the same of pairs one after the other
   preferred_spell_pairs : (ps : Pairs) → FinePairs ps → SpellPairs ps (preferred_pairs ps)
   preferred_spell_pairs no_pairs p = refl
-  preferred_spell_pairs (pair k v ps) p = (preferred k, preferred v, preferred_pairs ps, preferred_spells k p.0, preferred_spells v p.1, preferred_spell_pairs ps p.2, append_assoc (preferred k) (preferred v) (preferred_pairs ps))
+  preferred_spell_pairs (pair k v ps) p =
+      (preferred k, preferred v, preferred_pairs ps, preferred_spells k p.0, preferred_spells v p.1, preferred_spell_pairs ps p.2, append_assoc (preferred k) (preferred v) (preferred_pairs ps))
 
 -- ---- what is spelled is fine, where its chunks are not longer than a definite string can be
 
 -- items with the same preferred bytes are equal
 pub preferred_same : (k l : Item) → Fine k → Fine l → preferred k ≡ preferred l → k ≡ l
-preferred_same k l p q e = (one_spelling k l (preferred k) (preferred l) [] [] (preferred_spells k p) (preferred_spells l q) (ap (λ x. x ++ []) e)).0
+preferred_same k l p q e =
+    (one_spelling k l (preferred k) (preferred l) [] [] (preferred_spells k p) (preferred_spells l q) (ap (λ x. x ++ []) e)).0
 
 -- ---- distinct keys
 
--- a condition doesn't both hold and fail
-contradicts : (b : Bool) → b ≡ true → b ≡ false → ⊥
-contradicts b e f = cc
-
 -- a key that is known is new to pairs of which no key is known
-pub new_from : (k : Item) (ps : Pairs) (seen : List (List ℕ)) → is_known (preferred k) seen ≡ true → Unknown is_known seen ps → IsNew k ps
+pub new_from : (k : Item) (ps : Pairs) (seen : List (List ℕ)) → is_known (preferred k) seen ≡ true
+    → Unknown is_known seen ps → IsNew k ps
 new_from k no_pairs seen e un = tt
 new_from k (pair l v ps) seen e un =
-    (λ same. contradicts (is_known (preferred l) seen) (ap (λ z. is_known (preferred z) seen) (sym same) ∙ e) un.0, new_from k ps (with_key seen (preferred l)) (known_stays (preferred k) (preferred l) seen e) un.1)
+    (λ same. true_not_false (is_known (preferred l) seen) (ap (λ z. is_known (preferred z) seen) (sym same) ∙ e) un.0, new_from k ps (with_key seen (preferred l)) (known_stays (preferred k) (preferred l) seen e) un.1)
 
 mutual
   -- an item of which no key was known when it came has distinct keys
@@ -158,7 +164,8 @@ mutual
   items_distinct_from (item v vs) p = (distinct_from v p.0, items_distinct_from vs p.1)
 
   -- the same of pairs one after the other
-  pub pairs_distinct_from : (ps : Pairs) (seen : List (List ℕ)) → PairsKeyed is_known ps → Unknown is_known seen ps → PairsHaveDistinctKeys ps
+  pub pairs_distinct_from : (ps : Pairs) (seen : List (List ℕ)) → PairsKeyed is_known ps → Unknown is_known seen ps
+      → PairsHaveDistinctKeys ps
   pairs_distinct_from no_pairs seen p un = tt
   pairs_distinct_from (pair k v ps) seen p un =
       (distinct_from k p.0, distinct_from v p.1, new_from k ps (with_key seen (preferred k)) (known_new (preferred k) seen) un.1, pairs_distinct_from ps (with_key seen (preferred k)) p.2 un.1)
@@ -169,7 +176,8 @@ Fresh seen no_pairs = Unit {0}
 Fresh seen (pair k v ps) = (is_known (preferred k) seen ≡ false) × Fresh seen ps
 
 -- keys that aren't known stay so once a key that is none of theirs is known
-fresh_with : (k : Item) (ps : Pairs) (seen : List (List ℕ)) → Fine k → FinePairs ps → IsNew k ps → Fresh seen ps → Fresh (with_key seen (preferred k)) ps
+fresh_with : (k : Item) (ps : Pairs) (seen : List (List ℕ)) → Fine k → FinePairs ps → IsNew k ps → Fresh seen ps
+    → Fresh (with_key seen (preferred k)) ps
 fresh_with k no_pairs seen fk fp new h = tt
 fresh_with k (pair l v ps) seen fk fp new h =
     (known_other (preferred l) (preferred k) seen (λ e. new.0 (preferred_same k l fk fp.0 (sym e))) h.0, fresh_with k ps seen fk fp.2 new.1 h.1)
@@ -180,9 +188,11 @@ fresh_at_first no_pairs = tt
 fresh_at_first (pair k v ps) = (refl, fresh_at_first ps)
 
 -- distinct keys that weren't known aren't known when they come
-pub unknown_from : (ps : Pairs) (seen : List (List ℕ)) → FinePairs ps → PairsHaveDistinctKeys ps → Fresh seen ps → Unknown is_known seen ps
+pub unknown_from : (ps : Pairs) (seen : List (List ℕ)) → FinePairs ps → PairsHaveDistinctKeys ps → Fresh seen ps
+    → Unknown is_known seen ps
 unknown_from no_pairs seen f p h = tt
-unknown_from (pair k v ps) seen f p h = (h.0, unknown_from ps (with_key seen (preferred k)) f.2 p.3 (fresh_with k ps seen f.0 f.2 p.2 h.1))
+unknown_from (pair k v ps) seen f p h =
+    (h.0, unknown_from ps (with_key seen (preferred k)) f.2 p.3 (fresh_with k ps seen f.0 f.2 p.2 h.1))
 
 mutual
   -- in an item with distinct keys no key is known when it comes

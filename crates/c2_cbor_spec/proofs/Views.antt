@@ -36,23 +36,32 @@ pairs_len-view [] = refl
 pairs_len-view (p ∷ ps) = ap suc (pairs_len-view ps)
 
 -- the preferred bytes of a list are its head and its items' bytes
-pub preferred-List : (v : Vec Cbor Global) (n : ℕ) (vs : List Cbor) → n ≡ vec_len v → vs ≡ v.items → preferred (view (List' v)) ≡ shortest_head 4 n ++ preferred_items (items_view vs)
+pub preferred-List : (v : Vec Cbor Global) (n : ℕ) (vs : List Cbor) → n ≡ vec_len v → vs ≡ v.items
+    → preferred (view (List' v)) ≡ shortest_head 4 n ++ preferred_items (items_view vs)
 preferred-List v n vs e d =
     let len : length v.items ≡ n = omega (arith, v.ok.0) in
-    ap preferred (view-List v) ∙ ap (λ k. shortest_head 4 k ++ preferred_items (items_view v.items)) (items_len-view v.items ∙ len) ∙ ap (λ ws. shortest_head 4 n ++ preferred_items (items_view ws)) (sym d)
+    ap preferred (view-List v)
+    ∙ ap (λ k. shortest_head 4 k ++ preferred_items (items_view v.items)) (items_len-view v.items ∙ len)
+    ∙ ap (λ ws. shortest_head 4 n ++ preferred_items (items_view ws)) (sym d)
 
 -- the preferred bytes of a map are its head and its pairs' bytes
-pub preferred-Map : (v : Vec (Cbor × Cbor) Global) (n : ℕ) (ps : List (Cbor × Cbor)) → n ≡ vec_len v → ps ≡ v.items → preferred (view (Map v)) ≡ shortest_head 5 n ++ preferred_pairs (pairs_view ps)
+pub preferred-Map : (v : Vec (Cbor × Cbor) Global) (n : ℕ) (ps : List (Cbor × Cbor)) → n ≡ vec_len v → ps ≡ v.items
+    → preferred (view (Map v)) ≡ shortest_head 5 n ++ preferred_pairs (pairs_view ps)
 preferred-Map v n ps e d =
     let len : length v.items ≡ n = omega (arith, v.ok.0) in
-    ap preferred (view-Map v) ∙ ap (λ k. shortest_head 5 k ++ preferred_pairs (pairs_view v.items)) (pairs_len-view v.items ∙ len) ∙ ap (λ ws. shortest_head 5 n ++ preferred_pairs (pairs_view ws)) (sym d)
+    ap preferred (view-Map v)
+    ∙ ap (λ k. shortest_head 5 k ++ preferred_pairs (pairs_view v.items)) (pairs_len-view v.items ∙ len)
+    ∙ ap (λ ws. shortest_head 5 n ++ preferred_pairs (pairs_view ws)) (sym d)
 
 -- what was written is one head and what follows it
-pub append_parts : (old head rest first second whole : List ℕ) → first ≡ old ++ head → second ≡ first ++ rest → whole ≡ head ++ rest → second ≡ old ++ whole
-append_parts old head rest first second whole p q r = q ∙ ap (λ x. x ++ rest) p ∙ append_assoc old head rest ∙ ap (λ x. old ++ x) (sym r)
+pub append_parts : (old head rest first second whole : List ℕ) → first ≡ old ++ head → second ≡ first ++ rest
+    → whole ≡ head ++ rest → second ≡ old ++ whole
+append_parts old head rest first second whole p q r =
+    q ∙ ap (λ x. x ++ rest) p ∙ append_assoc old head rest ∙ ap (λ x. old ++ x) (sym r)
 
 -- the preferred bytes of a tagged item are its head and the item's bytes
-pub preferred-Tag : (n : ℕ) (v : Box Cbor Global) (w : Cbor) → w ≡ v.value → preferred (view (Tag n v)) ≡ shortest_head 6 n ++ preferred (view w)
+pub preferred-Tag : (n : ℕ) (v : Box Cbor Global) (w : Cbor) → w ≡ v.value
+    → preferred (view (Tag n v)) ≡ shortest_head 6 n ++ preferred (view w)
 preferred-Tag n v w e = ap preferred (view-Tag n v) ∙ ap (λ x. shortest_head 6 n ++ preferred (view x)) (sym e)
 
 -- the bytes of a half float are 249 and its two bytes
@@ -92,20 +101,26 @@ pub view-text : (t : List ℕ) → view (Text t) ≡ text t
 view-text t = search (rules, the_lemmas)
 
 -- a map is one level deeper than its keys and values
-pub depth-Map : (v : Vec (Cbor × Cbor) Global) (ps : List (Cbor × Cbor)) → ps ≡ v.items → depth (view (Map v)) ≡ suc (pairs_depth (pairs_view ps))
+pub depth-Map : (v : Vec (Cbor × Cbor) Global) (ps : List (Cbor × Cbor)) → ps ≡ v.items
+    → depth (view (Map v)) ≡ suc (pairs_depth (pairs_view ps))
 depth-Map v ps e = ap depth (view-Map v) ∙ ap (λ x. suc (pairs_depth (pairs_view x))) (sym e)
 
 -- a text of UTF-8 below 2^64 bytes has a spelling
 pub fine-Text : (v : Cbor) (t s : List ℕ) → v ≡ Text t → s ≡ t → IsUtf8 s → length s < 2 ^ 64 → Fine (view v)
 fine-Text v t s e same utf8 lt =
-    subst Fine (sym (ap view e ∙ view-text t)) (omega (arith, ap length same), ap is_utf8 (sym same) ∙ is_utf8-from_IsUtf8 s utf8)
+    subst Fine (sym (ap view e ∙ view-text t))
+    (omega (arith, ap length same), ap is_utf8 (sym same) ∙ is_utf8-from_IsUtf8 s utf8)
 
 -- a list of fewer than 2^64 items that have spellings has one
-pub fine-List : (v : Cbor) (w : Vec Cbor Global) (vs : List Cbor) → v ≡ List' w → vs ≡ w.items → vec_len w < 2 ^ 64 → FineItems (items_view vs) → Fine (view v)
+pub fine-List : (v : Cbor) (w : Vec Cbor Global) (vs : List Cbor) → v ≡ List' w → vs ≡ w.items → vec_len w < 2 ^ 64
+    → FineItems (items_view vs) → Fine (view v)
 fine-List v w vs e same lt f =
-    subst Fine (sym (ap view e ∙ view-List w)) (omega (arith, items_len-view w.items, w.ok.0), subst (λ ws. FineItems (items_view ws)) same f)
+    subst Fine (sym (ap view e ∙ view-List w))
+    (omega (arith, items_len-view w.items, w.ok.0), subst (λ ws. FineItems (items_view ws)) same f)
 
 -- a map of fewer than 2^64 pairs that have spellings has one
-pub fine-Map : (v : Cbor) (w : Vec (Cbor × Cbor) Global) (ps : List (Cbor × Cbor)) → v ≡ Map w → ps ≡ w.items → vec_len w < 2 ^ 64 → FinePairs (pairs_view ps) → Fine (view v)
+pub fine-Map : (v : Cbor) (w : Vec (Cbor × Cbor) Global) (ps : List (Cbor × Cbor)) → v ≡ Map w → ps ≡ w.items
+    → vec_len w < 2 ^ 64 → FinePairs (pairs_view ps) → Fine (view v)
 fine-Map v w ps e same lt f =
-    subst Fine (sym (ap view e ∙ view-Map w)) (omega (arith, pairs_len-view w.items, w.ok.0), subst (λ ws. FinePairs (pairs_view ws)) same f)
+    subst Fine (sym (ap view e ∙ view-Map w))
+    (omega (arith, pairs_len-view w.items, w.ok.0), subst (λ ws. FinePairs (pairs_view ws)) same f)

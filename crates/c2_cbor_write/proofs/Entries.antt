@@ -30,17 +30,22 @@ entries_bytes no_pairs = refl
 entries_bytes (pair k v ps) = ap (λ x. (preferred k ++ preferred v) ++ x) (entries_bytes ps)
 
 -- a choice of entries
-placed : (o : Ordering) (a b c : Pairs) → entries_of (match_ordering o a b c) ≡ match_ordering o (entries_of a) (entries_of b) (entries_of c)
+placed : (o : Ordering) (a b c : Pairs)
+    → entries_of (match_ordering o a b c) ≡ match_ordering o (entries_of a) (entries_of b) (entries_of c)
 placed Less a b c = refl
 placed Equal a b c = refl
 placed Greater a b c = refl
 
 -- inserting a pair inserts its entry
-pub entries_insert : (ps : Pairs) (k v : Item) → entries_of (insert_pair ps k v) ≡ insert_entry (entries_of ps) (preferred k, preferred v)
+pub entries_insert : (ps : Pairs) (k v : Item)
+    → entries_of (insert_pair ps k v) ≡ insert_entry (entries_of ps) (preferred k, preferred v)
 entries_insert no_pairs k v = refl
 entries_insert (pair l w ps) k v =
-    placed (slice_cmp nat_cmp (preferred k) (preferred l)) (pair k v (pair l w ps)) (pair l w (insert_pair ps k v)) (pair l w (insert_pair ps k v))
-    ∙ ap (λ r. match_ordering (slice_cmp nat_cmp (preferred k) (preferred l)) ((preferred k, preferred v) ∷ (preferred l, preferred w) ∷ entries_of ps) ((preferred l, preferred w) ∷ r) ((preferred l, preferred w) ∷ r)) (entries_insert ps k v)
+    placed (slice_cmp nat_cmp (preferred k) (preferred l)) (pair k v (pair l w ps)) (pair l w (insert_pair ps k v))
+    (pair l w (insert_pair ps k v))
+    ∙ ap
+    (λ r. match_ordering (slice_cmp nat_cmp (preferred k) (preferred l)) ((preferred k, preferred v) ∷ (preferred l, preferred w) ∷ entries_of ps) ((preferred l, preferred w) ∷ r) ((preferred l, preferred w) ∷ r))
+    (entries_insert ps k v)
 
 -- ---- the entries of marks
 
@@ -50,7 +55,8 @@ entered es [] = es
 entered es (p ∷ ps) = entered (insert_entry es (deterministic (view p.0), deterministic (view p.1))) ps
 
 -- a choice by two orders where the second is greater
-chosen_by : (o p : Ordering) → p ≡ Greater → (f : List Mark → List Entry) (x y z : List Mark) → f (match_ordering (ordering_then o p) x y z) ≡ match_ordering o (f x) (f z) (f z)
+chosen_by : (o p : Ordering) → p ≡ Greater → (f : List Mark → List Entry) (x y z : List Mark)
+    → f (match_ordering (ordering_then o p) x y z) ≡ match_ordering o (f x) (f z) (f z)
 chosen_by Less p e f x y z = refl
 chosen_by Equal p e f x y z = ap (λ r. f (match_ordering r x y z)) e
 chosen_by Greater p e f x y z = refl
@@ -65,9 +71,13 @@ insert_one skip a vs n k (x ∷ xs) b g h =
     let e : Entry = (k, get_or vs n []) in
     let fits : Fits skip a (suc n) m = record { front = refl; bytes = b; agree = g; below = omega arith } in
     let above : nat_cmp n x.2 ≡ Greater = sym (nat_cmp_is n x.2 Greater h.0.below) in
-    ap (λ o. map (entry_of vs) (match_ordering o (m ∷ x ∷ xs) (x ∷ xs) (x ∷ insert_key mark_cmp xs m))) (mark_order skip a (suc n) n m x fits h.0)
-    ∙ chosen_by (slice_cmp nat_cmp k x.1) (nat_cmp n x.2) above (map (entry_of vs)) (m ∷ x ∷ xs) (x ∷ xs) (x ∷ insert_key mark_cmp xs m)
-    ∙ ap (λ r. match_ordering (slice_cmp nat_cmp k x.1) (e ∷ map (entry_of vs) (x ∷ xs)) (entry_of vs x ∷ r) (entry_of vs x ∷ r)) (insert_one skip a vs n k xs b g h.1)
+    ap (λ o. map (entry_of vs) (match_ordering o (m ∷ x ∷ xs) (x ∷ xs) (x ∷ insert_key mark_cmp xs m)))
+    (mark_order skip a (suc n) n m x fits h.0)
+    ∙ chosen_by (slice_cmp nat_cmp k x.1) (nat_cmp n x.2) above (map (entry_of vs)) (m ∷ x ∷ xs) (x ∷ xs)
+    (x ∷ insert_key mark_cmp xs m)
+    ∙ ap
+    (λ r. match_ordering (slice_cmp nat_cmp k x.1) (e ∷ map (entry_of vs) (x ∷ xs)) (entry_of vs x ∷ r) (entry_of vs x ∷ r))
+    (insert_one skip a vs n k xs b g h.1)
 
 -- what a list goes on with at n is its n-th element and the rest
 module _ {A : Type 0} (d : A) (vs : List A) (n : ℕ) (first : A) (rest : List A) (e : drop n vs ≡ first ∷ rest) where
@@ -88,32 +98,50 @@ entries_inserted skip a vs n [] ms e b g h = refl
 entries_inserted skip a vs n (p ∷ ps) ms e b g h =
     let k = deterministic (view p.0) in
     let v = deterministic (view p.1) in
-    let here : Fits skip a (suc n) (front_after skip k, k, n) = record { front = refl; bytes = b.0; agree = g.0; below = omega arith } in
-    let fits : AllByRecursion (Fits skip a (suc n)) (insert_key mark_cmp ms (front_after skip k, k, n)) = all_insert (Fits skip a (suc n)) ms (front_after skip k, k, n) here (all_map (Fits skip a n) (Fits skip a (suc n)) ms (fits_more skip a n (suc n) (omega arith)) h) in
-    entries_inserted skip a vs (suc n) ps (insert_key mark_cmp ms (front_after skip k, k, n)) (rest_is [] vs n v (det_values ps) e) b.1 g.1 fits
-    ∙ ap (λ es. entered es ps) (insert_one skip a vs n k ms b.0 g.0 h ∙ ap (λ x. insert_entry (map (entry_of vs) ms) (k, x)) (here_is [] vs n v (det_values ps) e))
+    let here : Fits skip a (suc n) (front_after skip k, k, n) =
+    record { front = refl; bytes = b.0; agree = g.0; below = omega arith } in
+    let fits : AllByRecursion (Fits skip a (suc n)) (insert_key mark_cmp ms (front_after skip k, k, n)) =
+    all_insert (Fits skip a (suc n)) ms (front_after skip k, k, n) here
+    (all_map (Fits skip a n) (Fits skip a (suc n)) ms (fits_more skip a n (suc n) (omega arith)) h) in
+    entries_inserted skip a vs (suc n) ps (insert_key mark_cmp ms (front_after skip k, k, n))
+    (rest_is [] vs n v (det_values ps) e) b.1 g.1 fits
+    ∙ ap (λ es. entered es ps)
+    (insert_one skip a vs n k ms b.0 g.0 h ∙ ap (λ x. insert_entry (map (entry_of vs) ms) (k, x)) (here_is [] vs n v (det_values ps) e))
 
 -- entering pairs is sorting them
-entered_is : (ps : List (Cbor × Cbor)) (before : Pairs) → entered (entries_of before) ps ≡ entries_of (sorted_pairs (pairs_view ps) before)
+entered_is : (ps : List (Cbor × Cbor)) (before : Pairs)
+    → entered (entries_of before) ps ≡ entries_of (sorted_pairs (pairs_view ps) before)
 entered_is [] before = refl
-entered_is (p ∷ ps) before = ap (λ es. entered es ps) (sym (entries_insert before (sorted (view p.0)) (sorted (view p.1)))) ∙ entered_is ps (insert_pair before (sorted (view p.0)) (sorted (view p.1)))
+entered_is (p ∷ ps) before =
+    ap (λ es. entered es ps) (sym (entries_insert before (sorted (view p.0)) (sorted (view p.1))))
+    ∙ entered_is ps (insert_pair before (sorted (view p.0)) (sorted (view p.1)))
 
 -- the entries in the order of sorted keys are the pairs in their order
-pub in_order : (ps : List (Cbor × Cbor)) (ms : List Mark) → IsKeyOrder (det_keys ps) ms → entry_bytes (map (entry_of (det_values ps)) ms) ≡ preferred_pairs (sorted_pairs (pairs_view ps) no_pairs)
+pub in_order : (ps : List (Cbor × Cbor)) (ms : List Mark) → IsKeyOrder (det_keys ps) ms
+    → entry_bytes (map (entry_of (det_values ps)) ms) ≡ preferred_pairs (sorted_pairs (pairs_view ps) no_pairs)
 in_order ps ms o =
     ap (λ l. entry_bytes (map (entry_of (det_values ps)) l)) (sorted_is o.skip (det_keys ps) ms o.moved o.up)
-    ∙ ap entry_bytes (entries_inserted o.skip o.shared.0 (det_values ps) 0 ps [] refl o.bytes o.shared.1 tt ∙ entered_is ps no_pairs)
+    ∙ ap entry_bytes
+    (entries_inserted o.skip o.shared.0 (det_values ps) 0 ps [] refl o.bytes o.shared.1 tt ∙ entered_is ps no_pairs)
     ∙ entries_bytes (sorted_pairs (pairs_view ps) no_pairs)
 
 -- ---- what the code does
 
 -- each key in that order is that of the pair with its number
-pub keys_are : (ps : List (Cbor × Cbor)) (ms s : List Lent) → IsKeyOrder (det_keys ps) (marks ms) → s ≡ ms → AreKeysOf ps s
+pub keys_are : (ps : List (Cbor × Cbor)) (ms s : List Lent) → IsKeyOrder (det_keys ps) (marks ms) → s ≡ ms
+    → AreKeysOf ps s
 keys_are ps ms s o same = λ i d l.
     let lt : i < length (marks s) = omega (arith, l, length-map s mark_of) in
-    let is = mark_is o.skip (det_keys ps) (marks s) (subst (λ x. IsPermutation (numbered o.skip 0 (det_keys ps)) (marks x)) (sym same) o.moved) (subst (λ x. IsSorted mark_cmp (marks x)) (sym same) o.up) i lt in
+    let is =
+    mark_is o.skip (det_keys ps) (marks s)
+    (subst (λ x. IsPermutation (numbered o.skip 0 (det_keys ps)) (marks x)) (sym same) o.moved)
+    (subst (λ x. IsSorted mark_cmp (marks x)) (sym same) o.up) i lt in
     subst (λ (m : Mark). m.1 ≡ get_or (det_keys ps) m.2 []) (sym (lent_at s i d l)) is.2
 
 -- what was written in that order
-pub det_written : (ps : List (Cbor × Cbor)) (ms : List Lent) (s : List Lent) (old new : List ℕ) → IsKeyOrder (det_keys ps) (marks ms) → s ≡ ms → new ≡ old ++ entry_bytes (map (entry_of (det_values ps)) (marks s)) → new ≡ old ++ preferred_pairs (sorted_pairs (pairs_view ps) no_pairs)
-det_written ps ms s old new o same e = e ∙ ap (λ l. old ++ entry_bytes (map (entry_of (det_values ps)) (marks l))) same ∙ ap (λ x. old ++ x) (in_order ps (marks ms) o)
+pub det_written : (ps : List (Cbor × Cbor)) (ms : List Lent) (s : List Lent) (old new : List ℕ)
+    → IsKeyOrder (det_keys ps) (marks ms) → s ≡ ms → new ≡ old ++ entry_bytes (map (entry_of (det_values ps)) (marks s))
+    → new ≡ old ++ preferred_pairs (sorted_pairs (pairs_view ps) no_pairs)
+det_written ps ms s old new o same e =
+    e ∙ ap (λ l. old ++ entry_bytes (map (entry_of (det_values ps)) (marks l))) same
+    ∙ ap (λ x. old ++ x) (in_order ps (marks ms) o)

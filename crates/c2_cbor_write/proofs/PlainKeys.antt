@@ -6,18 +6,20 @@ use Rattle.c2_spec.specs.Cbor.Item.{Item, uint, nint, bytes, text, list, dict, t
 use Rattle.c2_spec.specs.Cbor.View.{view, items_view, pairs_view}
 use Rattle.c2_spec.specs.Cbor.Deterministic.{deterministic}
 use Rattle.c2_spec.specs.Cbor.Plain.{DiffersFrom, HasPlainKeys, ItemsHavePlainKeys, PairsHavePlainKeys}
-use Rattle.c2_spec.specs.Cbor.Legal.{IsNew, HasDistinctKeys, ItemsHaveDistinctKeys, PairsHaveDistinctKeys}
+use Rattle.c2_spec.specs.Cbor.Legal.{HasDistinctKeys, ItemsHaveDistinctKeys, PairsHaveDistinctKeys}
 use Rattle.c2_spec.specs.declared.cbor.Cbor.{Cbor, List as List', Map, Tag}
 use Rattle.c2_cbor_write.specs.Entries.{det_keys, value_at, KeysPlain, ValuesPlain}
 use Rattle.c2_cbor_spec.specs.Marks.{Mark, mark_of, marks, mark_at, IsKeyOrder, LeastRepeated}
 use Rattle.c2_cbor_spec.proofs.Marks.{Lent, mark_is, stands, shows}
 use Rattle.c2_cbor_write.proofs.Entries.{here_is, rest_is}
 use Rattle.c2_cbor_spec.proofs.Views.{view-List, view-Map, view-Tag}
+use Rattle.c2_spec.proofs.CborShared.{new_from_bytes}
 
 -- ---- a plain map
 
 -- the value of the i-th mark
-values_at : (ps : List (Cbor × Cbor)) (ms : List Mark) (i : ℕ) → ValuesPlain ps ms → i < length ms → HasPlainKeys (value_at ps (mark_at ms i).2)
+values_at : (ps : List (Cbor × Cbor)) (ms : List Mark) (i : ℕ) → ValuesPlain ps ms → i < length ms
+    → HasPlainKeys (value_at ps (mark_at ms i).2)
 values_at ps [] i h l = let never : ⊥ = omega (arith, l) in absurd never
 values_at ps (m ∷ ms) zero h l = h.0
 values_at ps (m ∷ ms) (suc i) h l = values_at ps ms i h.1 (omega (arith, l))
@@ -29,7 +31,9 @@ module _ (all : List (Cbor × Cbor)) (n : ℕ) (p : Cbor × Cbor) (ps : List (Cb
 
   -- its key's bytes
   key_here : get_or (det_keys all) n [] ≡ deterministic (view p.0)
-  key_here = get_or-map (λ q. deterministic (view q.0)) all n p [] here_in ∙ ap (λ q. deterministic (view q.0)) (here_is p all n p ps e)
+  key_here =
+      get_or-map (λ q. deterministic (view q.0)) all n p [] here_in
+      ∙ ap (λ q. deterministic (view q.0)) (here_is p all n p ps e)
 
   -- its value
   value_here : value_at all n ≡ view p.1
@@ -47,7 +51,8 @@ module _ (all : List (Cbor × Cbor)) (ms : List Mark) (o : IsKeyOrder (det_keys 
       subst (λ n. HasPlainKeys (value_at all n)) (ap (λ m. m.2) s.2) (values_at all ms s.0 h s.1)
 
   -- the n-th key differs from those from the m-th on
-  differs : (n m : ℕ) (k : Item) (rs : List (Cbor × Cbor)) → get_or (det_keys all) n [] ≡ deterministic k → drop m all ≡ rs → n < m → DiffersFrom k (pairs_view rs)
+  differs : (n m : ℕ) (k : Item) (rs : List (Cbor × Cbor)) → get_or (det_keys all) n [] ≡ deterministic k
+      → drop m all ≡ rs → n < m → DiffersFrom k (pairs_view rs)
   differs n m k [] here e l = tt
   differs n m k (r ∷ rs) here e l =
       let inside : m < length (det_keys all) = omega (arith, here_in all m r rs e, length-map all (λ q. deterministic (view q.0))) in (
@@ -56,7 +61,8 @@ module _ (all : List (Cbor × Cbor)) (ms : List Mark) (o : IsKeyOrder (det_keys 
       )
 
   -- what is left from the n-th pair on is plain
-  plain_from : (n : ℕ) (qs : List (Cbor × Cbor)) → drop n all ≡ qs → KeysPlain qs → ValuesPlain all ms → PairsHavePlainKeys (pairs_view qs)
+  plain_from : (n : ℕ) (qs : List (Cbor × Cbor)) → drop n all ≡ qs → KeysPlain qs → ValuesPlain all ms
+      → PairsHavePlainKeys (pairs_view qs)
   plain_from n [] e h v = tt
   plain_from n (q ∷ qs) e h v =
       let inside : n < length (det_keys all) = omega (arith, here_in all n q qs e, length-map all (λ p. deterministic (view p.0))) in (
@@ -104,7 +110,8 @@ plain_values ps [] h = tt
 plain_values ps (m ∷ ms) h = (plain_value ps h m.2, plain_values ps ms h)
 
 -- none of its sorted keys repeats the one before it
-plain_none : (ps : List (Cbor × Cbor)) (ms : List Mark) → IsKeyOrder (det_keys ps) ms → PairsHavePlainKeys (pairs_view ps)
+plain_none : (ps : List (Cbor × Cbor)) (ms : List Mark) → IsKeyOrder (det_keys ps) ms
+    → PairsHavePlainKeys (pairs_view ps)
     → LeastRepeated ms (length ms) None
 plain_none ps ms o h i l r =
     let x = mark_is o.skip (det_keys ps) ms o.moved o.up i (omega (arith, l)) in
@@ -120,7 +127,8 @@ pub plain_pairs : (ps : List (Cbor × Cbor)) (ks s t : List Lent) (whole differ 
     → (whole ≡ true) ↔ PairsHavePlainKeys (pairs_view ps)
 plain_pairs ps ks s t whole differ parts keys values o same there least kp vp both all =
     let len : length (marks ks) ≡ length ks = length-map ks mark_of in
-    let here : (differ ≡ true) ↔ LeastRepeated (marks ks) (length (marks ks)) None = subst (λ n. (differ ≡ true) ↔ LeastRepeated (marks ks) n None) (sym len)
+    let here : (differ ≡ true) ↔ LeastRepeated (marks ks) (length (marks ks)) None =
+    subst (λ n. (differ ≡ true) ↔ LeastRepeated (marks ks) n None) (sym len)
     (subst (λ l. (differ ≡ true) ↔ LeastRepeated (marks l) (length l) None) same least) in
     let vals : (values ≡ true) ↔ ValuesPlain ps (marks ks) = subst (λ l. (values ≡ true) ↔ ValuesPlain ps (marks l)) there vp in (
       λ e. let w = all.0 e in let p = both.0 w.1 in plain_map ps (marks ks) o (here.0 w.0) (kp.0 p.0) (vals.0 p.1),
@@ -158,26 +166,25 @@ module _ (P : Type 0) where
 pub plain-List : (b : Bool) (x : Cbor) (v : Vec Cbor Global) (vs : List Cbor) → x ≡ List' v → vs ≡ v.items
     → ((b ≡ true) ↔ ItemsHavePlainKeys (items_view vs)) → (b ≡ true) ↔ HasPlainKeys (view x)
 plain-List b x v vs is e h =
-    subst (λ w. (b ≡ true) ↔ HasPlainKeys w) (sym (ap view is ∙ view-List v)) (subst (λ ws. (b ≡ true) ↔ ItemsHavePlainKeys (items_view ws)) e h)
+    subst (λ w. (b ≡ true) ↔ HasPlainKeys w) (sym (ap view is ∙ view-List v))
+    (subst (λ ws. (b ≡ true) ↔ ItemsHavePlainKeys (items_view ws)) e h)
 
 -- a map
-pub plain-Map : (b : Bool) (x : Cbor) (v : Vec (Cbor × Cbor) Global) (ps : List (Cbor × Cbor)) → x ≡ Map v → ps ≡ v.items
+pub plain-Map : (b : Bool) (x : Cbor) (v : Vec (Cbor × Cbor) Global) (ps : List (Cbor × Cbor)) → x ≡ Map v
+    → ps ≡ v.items
     → ((b ≡ true) ↔ PairsHavePlainKeys (pairs_view ps)) → (b ≡ true) ↔ HasPlainKeys (view x)
 plain-Map b x v ps is e h =
-    subst (λ w. (b ≡ true) ↔ HasPlainKeys w) (sym (ap view is ∙ view-Map v)) (subst (λ qs. (b ≡ true) ↔ PairsHavePlainKeys (pairs_view qs)) e h)
+    subst (λ w. (b ≡ true) ↔ HasPlainKeys w) (sym (ap view is ∙ view-Map v))
+    (subst (λ qs. (b ≡ true) ↔ PairsHavePlainKeys (pairs_view qs)) e h)
 
 -- a tag
 pub plain-Tag : (b : Bool) (x : Cbor) (n : ℕ) (v : Box Cbor Global) (w : Cbor) → x ≡ Tag n v → w ≡ v.value
     → ((b ≡ true) ↔ HasPlainKeys (view w)) → (b ≡ true) ↔ HasPlainKeys (view x)
 plain-Tag b x n v w is e h =
-    subst (λ y. (b ≡ true) ↔ HasPlainKeys y) (sym (ap view is ∙ view-Tag n v)) (subst (λ y. (b ≡ true) ↔ HasPlainKeys (view y)) e h)
+    subst (λ y. (b ≡ true) ↔ HasPlainKeys y) (sym (ap view is ∙ view-Tag n v))
+    (subst (λ y. (b ≡ true) ↔ HasPlainKeys (view y)) e h)
 
 -- ---- plain keys are distinct
-
--- other bytes make another key
-new_from_bytes : (k : Item) (ps : Pairs) → DiffersFrom k ps → IsNew k ps
-new_from_bytes k no_pairs h = tt
-new_from_bytes k (pair l v ps) h = (λ e. h.0 (ap deterministic e), new_from_bytes k ps h.1)
 
 mutual
   -- an item
@@ -202,4 +209,5 @@ mutual
   -- pairs
   plain_distinct_pairs : (ps : Pairs) → PairsHavePlainKeys ps → PairsHaveDistinctKeys ps
   plain_distinct_pairs no_pairs h = tt
-  plain_distinct_pairs (pair k v ps) h = (plain_distinct k h.0, plain_distinct v h.1, new_from_bytes k ps h.2, plain_distinct_pairs ps h.3)
+  plain_distinct_pairs (pair k v ps) h =
+      (plain_distinct k h.0, plain_distinct v h.1, new_from_bytes k ps h.2, plain_distinct_pairs ps h.3)

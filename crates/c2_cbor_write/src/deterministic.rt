@@ -9,7 +9,7 @@ ghost use Rattle.c2_spec.specs.Cbor.Plain.{HasPlainKeys, ItemsHavePlainKeys, Pai
 ghost use Rattle.c2_cbor_write.specs.Entries.{entry_bytes, entry_of, det_keys, det_values, value_at, AreKeysOf, KeysPlain, ValuesPlain};
 ghost use Rattle.c2_cbor_spec.specs.Marks.{StandIn, marks, LeastRepeated};
 
-use c2_cbor_order::{least_repeated, push_head, push_preferred, sorted_keys};
+use c2_cbor_heads::{least_repeated, push_head, push_preferred, sorted_keys};
 use c2_spec::Cbor;
 use std::alloc::{AllocError, Global};
 

@@ -7,7 +7,7 @@ ghost use Rattle.c2_cbor_spec.specs.Fine.{Fine, FineItems, FinePairs};
 ghost use Rattle.c2_spec.specs.Cbor.Unwritable.{HasEqualKeys, ItemsHaveEqualKeys, PairsHaveEqualKeys};
 
 use c2_base::NoMemory;
-use c2_cbor_order::first_equal;
+use c2_cbor_heads::first_equal;
 use c2_spec::Cbor;
 use std::alloc::Global;
 

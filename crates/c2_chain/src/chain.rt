@@ -25,11 +25,10 @@ use c2_hash::Hashing;
 use c2_judge::Judge;
 use c2_jumbf::{Tree, count};
 use c2_read_manifests::{
-    ReadManifests, a_reading_is_the_claim_and_the_question, is_reached, is_redacted, is_touched,
-    labels_of_a_store_differ, manifests, one_question, reaches as is_below, read_claim_at,
-    read_manifests,
+    ReadManifests, is_reached, is_redacted, is_touched, manifests, reaches as is_below,
+    read_claim_at, read_manifests,
 };
-use c2_rules::{Failing, a_question_where_the_claim_rules_hold, tests_decide_chains};
+use c2_rules::{Failing, tests_decide_chains};
 use c2_spec::{Claim, Ingredient};
 use c2_store::Store;
 use std::alloc::Global;
@@ -70,8 +69,6 @@ pub fn of_store<'t>(
     ensures boxes { IfOk result (λ chain. chain.boxes ≡ store_of tree.now) }
 {
     // Only the prover needs these laws, and the count: it takes from here that the tree is legal.
-    a_reading_is_the_claim_and_the_question();
-    labels_of_a_store_differ();
     let _boxes = count(tree);
     let all = read_manifests(alloc, tree, store)?;
     Ok(Chain { store, all })
@@ -80,7 +77,7 @@ pub fn of_store<'t>(
 /// The number of manifests, which is that of the claims and of the readings. Takes no memory.
 pub fn manifest_count(chain: &Chain<'_>) -> usize
     ensures count { result ≡ length chain.now.manifests }
-    // As many were read as there are.
+    // As many manifests were read as a store has.
     ensures read { result ≡ length chain.now.readings }
     // A store has a manifest.
     ensures some { 0 < result }
@@ -123,9 +120,6 @@ pub fn question_of(alloc: Global, chain: &Chain<'_>, i: usize) -> Result<Option<
     ensures value { IfOk result
         (λ found. IfSome (slice_get chain.now.readings i) (λ r. found ≡ question_in r)) }
 {
-    // Only the prover needs these laws.
-    a_reading_is_the_claim_and_the_question();
-    one_question();
     own_question(alloc, &manifests(&chain.all)[i])
 }
 
@@ -133,10 +127,9 @@ pub fn question_of(alloc: Global, chain: &Chain<'_>, i: usize) -> Result<Option<
 pub fn reached(chain: &Chain<'_>, i: usize) -> bool
     requires { i < length chain.now.readings }
     ensures is { IsTrue result ↔ Reached chain.now.readings i }
-    // The same as the test by which the rules go.
+    // The answer is that of the test `is_reached`, by which the rules go.
     ensures value { result ≡ form.is_reached chain.now.readings i }
 {
-    // Only the prover needs this law.
     tests_decide_chains();
     is_reached(&chain.all, i)
 }
@@ -146,10 +139,9 @@ pub fn reaches(chain: &Chain<'_>, n: usize, m: usize) -> bool
     requires n { n < length chain.now.readings }
     requires m { m < length chain.now.readings }
     ensures is { IsTrue result ↔ Reaches chain.now.readings n m }
-    // The same as the test by which the rules go.
+    // The answer is that of the test `reaches`, by which the rules go.
     ensures value { result ≡ form.reaches chain.now.readings n m }
 {
-    // Only the prover needs this law.
     tests_decide_chains();
     is_below(&chain.all, n, m)
 }
@@ -159,10 +151,9 @@ pub fn reaches(chain: &Chain<'_>, n: usize, m: usize) -> bool
 pub fn redacted(chain: &Chain<'_>, i: usize, label: &str) -> bool
     requires { i < length chain.now.readings }
     ensures is { IsTrue result ↔ IsRedacted chain.now.readings i label.now }
-    // The same as the test by which the rules go.
+    // The answer is that of the test `is_redacted`, by which the rules go.
     ensures value { result ≡ form.is_redacted chain.now.readings i label.now }
 {
-    // Only the prover needs this law.
     tests_decide_chains();
     is_redacted(&chain.all, i, label)
 }
@@ -171,10 +162,9 @@ pub fn redacted(chain: &Chain<'_>, i: usize, label: &str) -> bool
 pub fn touched(chain: &Chain<'_>, i: usize) -> bool
     requires { i < length chain.now.readings }
     ensures is { IsTrue result ↔ IsTouched chain.now.readings i }
-    // The same as the test by which the rules go.
+    // The answer is that of the test `is_touched`, by which the rules go.
     ensures value { result ≡ form.is_touched chain.now.readings i }
 {
-    // Only the prover needs this law.
     tests_decide_chains();
     is_touched(&chain.all, i)
 }
@@ -201,8 +191,6 @@ pub fn check_manifest<H: Hashing>(
     ensures quiet { IfSome (slice_get chain.now.readings i)
         (λ r. first_failing (claim_tests r) ≢ None → judges.new ≡ judges.old) }
 {
-    // Only the prover needs this law.
-    a_question_where_the_claim_rules_hold();
     check_alone(alloc, hashing, all(chain), i, judges)
 }
 
@@ -241,8 +229,6 @@ pub fn check_known<H: Hashing>(
     ensures quiet { IfSome (slice_get chain.now.readings i)
         (λ r. first_failing (claim_tests r) ≢ None → judges.new ≡ judges.old) }
 {
-    // Only the prover needs this law.
-    a_question_where_the_claim_rules_hold();
     check_place(alloc, hashing, all(chain), facts, i, judges)
 }
 

@@ -7,8 +7,6 @@ ghost use Rattle.c2_rules.specs.Readings.{ReadBox, Reading};
 ghost use Rattle.c2_rules.specs.Seen.{Standing, standing_of};
 ghost use Rattle.c2_chain.specs.Children.{HasBoxAt, NamesChild, Stands};
 
-use c2_rules::tests_decide_chains;
-
 /// Where manifests have different labels, the child that one assertion box names is the manifest with the label that the box names, if that
 /// stands earlier. The children of a manifest are those that its boxes name; and what a box with an index in the box tree names is a child
 /// of the manifest that has this box.
@@ -27,7 +25,4 @@ pub fn a_box_names_one_child()
 pub fn a_label_stands_one_way()
     ensures { (rs : List Reading) (i : ℕ) (label : List ℕ) (s : Standing) → LabelsDiffer rs
         → (standing_of rs i label ≡ s) ↔ Stands rs i label s }
-{
-    // Only the prover needs this law.
-    tests_decide_chains();
-}
+{}

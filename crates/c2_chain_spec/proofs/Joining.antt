@@ -1,25 +1,29 @@
 -- The rules of each manifest hold in a joined chain as they did in its own.
 use Rattle.std.proofs.Common.{◌≡◌, ◌⊎◌, inl, inr, ⊎_elim, ℕ, ◌+◌, ◌-◌, ◌<◌, ◌≤◌, Bool, true, false, not, ◌||◌, List, ◌++◌, length, Some, slice_get, Contains, refl, sym, ap, ◌∙◌, subst, arith, bytes_eq, length-append}
 use Rattle.std.specs.Prelude.{filter_map, is_none, nat_eq, option_and_then}
-use Rattle.std.proofs.lemmas.Bool.{cases_lt, both_ways, not_from_false, true≢false}
+use Rattle.std.proofs.lemmas.Bool.{cases_lt, both_ways, not_from_false}
 use Rattle.std.proofs.lemmas.Bool.Decides.{Decides-eqb}
 use Rattle.std.proofs.lemmas.Option.{same_Some, slice_get_within}
 use Rattle.std.proofs.lemmas.Slice.Eq.{bytes_eq-Decides}
 use Rattle.c2_spec.specs.declared.digest.Alg.{Alg}
 use Rattle.c2_rules.specs.Chains.{IsChild, LabelsDiffer, Reaches, label_in, named_in, place_of, reaches}
-use Rattle.c2_rules.specs.Chains.Reaches.{child, through}
+use Rattle.c2_rules.specs.Chains.Reaches.{child}
 use Rattle.c2_rules.specs.Readings.{ReadBox, Reading, entries_in}
 use Rattle.c2_rules.specs.Rules.{box_with, lists_label, unjudged_tests}
 use Rattle.c2_rules.specs.Seen.{child_standing}
 use Rattle.c2_rules.specs.Tests.{AllHold}
-use Rattle.c2_rules.proofs.ListLemmas.{and_true, both_true, from_and_then, from_any, from_filter_map, in_any, in_filter_map, or_cases, or_left, or_right}
+use Rattle.c2_rules.proofs.ListLemmas.{from_and_then, from_any, from_filter_map, in_any, in_filter_map, or_left}
 use Rattle.c2_rules.proofs.ReachLemmas.{place_is, placed, reaches_decides}
 use Rattle.c2_chain_spec.specs.Joined.{ChainsJoin, IsReachedInJoin, NoneClashes, has_manifest, is_carried, joined, joined_roots, picked, place_in}
 use Rattle.c2_chain_spec.specs.Rooted.{AllReadKinds, HoldBy, IsReachedFrom, IsRedactedBy, IsRooted, is_reached_from, redacted_by, seen_by, standing_by}
 use Rattle.c2_chain_spec.specs.Rooted.IsReachedFrom.{is_root, is_below}
-use Rattle.c2_chain_spec.proofs.Places.{at_contains, contains_at, contains_either, contains_left, contains_right, from_right, get_left, member_of, picked_at, picked_differ, picked_of, picked_order, to_right}
-use Rattle.c2_chain_spec.proofs.Seeing.{IsBefore, KeepsRules, SeenAgain, hold_again, lacks_redacted, named_before, passing_same}
-use Rattle.c2_chain_spec.proofs.Standing.{ChildTo, Joins, ReachFrom, ReachTo, Stands, child_to, holds_a, holds_b, reach_back, reach_closed, reach_down, reach_from, reach_front, reach_to, reach_within, redacted_decides, same_test, shared_reached, standing_is}
+use Rattle.c2_chain_spec.proofs.Places.{contains_either, contains_left, contains_right, from_right, get_left, member_of, picked_at, picked_differ, picked_of, picked_order, to_right}
+use Rattle.c2_chain_spec.proofs.Seeing.{IsBefore, SeenAgain, hold_again, lacks_redacted, named_before, passing_same}
+use Rattle.c2_chain_spec.proofs.Standing.{ChildTo, Joins, ReachFrom, ReachTo, Stands, child_to, holds_a, holds_b, reach_back, reach_closed, reach_down, reach_from, reach_front, reach_to, reach_within, redacted_decides, shared_reached, standing_is}
+use Rattle.c2_lemmas.proofs.Bools.{and_true, both_true, not_true_is_false, or_cases, or_second, same_test}
+use Rattle.c2_lemmas.proofs.Each.{at_contains, contains_at}
+use Rattle.c2_lemmas.proofs.Options.{some_at}
+use Rattle.c2_rules.proofs.ReachLemmas.{one_more}
 
 -- ---- what is redacted
 
@@ -109,7 +113,7 @@ red_to hash as_ bs js ra rb rj k p r l j reached is at h =
       does = h.does;
     }
 
--- of the labels that a manifest in front lists the same are redacted
+-- a label that a manifest in front lists is redacted in the joined chain just when it is in the chain in front
 pub same_a : (hash : Alg → List ℕ → List ℕ) (as_ bs js : List Reading) (ra rb rj : ℕ → Bool) (p : ℕ) (r : Reading)
     (l : List ℕ)
     → Joins hash as_ bs js ra rb → IsReachedInJoin as_ bs js ra rb rj → ra p ≡ true → slice_get as_ p ≡ Some r
@@ -146,7 +150,7 @@ same_a hash as_ bs js ra rb rj p r l j k e is listed =
         (redacted_decides rj js j.differ p l).1
         (red_front hash as_ bs js ra rb rj p l j k below ((redacted_decides ra as_ j.differ_a p l).0 h))
 
--- of those that a manifest of the other chain lists too
+-- a label that a manifest of the other chain lists is redacted in the joined chain just when it is in that chain
 pub same_b : (hash : Alg → List ℕ → List ℕ) (as_ bs js : List Reading) (ra rb rj : ℕ → Bool) (i p : ℕ) (r : Reading)
     (l : List ℕ)
     → Joins hash as_ bs js ra rb → IsReachedInJoin as_ bs js ra rb rj → rb i ≡ true → slice_get bs i ≡ Some r
@@ -211,7 +215,7 @@ again_a hash as_ bs js ra rb rj p r j k e is = record {
         (passing_same c.0 (redacted_by rj js m) (redacted_by ra as_ m) (λ l listed. same_a hash as_ bs js ra rb rj m c.0 l j k reached c.1 listed))
         ∙ sym (standing_is ra as_ p m label c.0 before.is lt c.1)
 
--- and so is one of the other chain
+-- a manifest of the other chain is seen again
 again_b : (hash : Alg → List ℕ → List ℕ) (as_ bs js : List Reading) (ra rb rj : ℕ → Bool) (i p : ℕ) (r : Reading)
     → Joins hash as_ bs js ra rb → IsReachedInJoin as_ bs js ra rb rj → rb i ≡ true → slice_get bs i ≡ Some r
     → slice_get js p ≡ Some r → SeenAgain (seen_by rb bs i r) (seen_by rj js p r)
@@ -244,22 +248,22 @@ again_b hash as_ bs js ra rb rj i p r j k e is at = record {
         (passing_same c.0 (redacted_by rj js to.place) (redacted_by rb bs m) (λ l listed. same_b hash as_ bs js ra rb rj m to.place c.0 l j k reached c.1 there listed))
         ∙ sym (standing_is rb bs i m label c.0 before.is lt c.1)
 
--- so all rules but the verdicts' hold of what is reached in the joined chain
-pub joined_hold : KeepsRules → (hash : Alg → List ℕ → List ℕ) (as_ bs js : List Reading) (ra rb rj : ℕ → Bool)
+-- all rules but the verdicts' hold of what is reached in the joined chain
+pub joined_hold : (hash : Alg → List ℕ → List ℕ) (as_ bs js : List Reading) (ra rb rj : ℕ → Bool)
     → Joins hash as_ bs js ra rb → IsReachedInJoin as_ bs js ra rb rj → HoldBy hash rj js
-joined_hold keeps hash as_ bs js ra rb rj j k p r e at = ⊎_elim in_front behind (cases_lt p (length as_))
+joined_hold hash as_ bs js ra rb rj j k p r e at = ⊎_elim in_front behind (cases_lt p (length as_))
   where
     in_front : p < length as_ → AllHold (unjudged_tests hash (seen_by rj js p r))
     in_front below =
         let reached : ra p ≡ true = sym (k.front p below) ∙ e in
         let is : slice_get as_ p ≡ Some r = sym (j.front p below) ∙ at in
-        hold_again keeps hash (seen_by ra as_ p r) (seen_by rj js p r)
+        hold_again hash (seen_by ra as_ p r) (seen_by rj js p r)
         (again_a hash as_ bs js ra rb rj p r j k reached is) (j.hold_a p r reached is)
 
     behind : length as_ ≤ p → AllHold (unjudged_tests hash (seen_by rj js p r))
     behind le =
         let from = j.comes p r le at in
-        hold_again keeps hash (seen_by rb bs from.0 r) (seen_by rj js p r)
+        hold_again hash (seen_by rb bs from.0 r) (seen_by rj js p r)
         (again_b hash as_ bs js ra rb rj from.0 p r j k from.2 from.1 at) (j.hold_b from.0 r from.2 from.1)
 
 -- ---- roots
@@ -269,9 +273,11 @@ pub from_roots : (rs : List Reading) (roots : List ℕ) (m : ℕ) → LabelsDiff
     → IsReachedFrom rs roots m
 from_roots rs roots m differ e =
     let found = from_any (λ c. nat_eq c m || reaches rs c m) roots e in
-    ⊎_elim (λ same. is_root (subst (Contains roots) ((Decides-eqb found.0 m).0 same) found.1)) (λ more. is_below found.0 found.1 ((reaches_decides rs differ found.0 m).0 more)) (or_cases (nat_eq found.0 m) (reaches rs found.0 m) found.2)
+    ⊎_elim (λ same. is_root (subst (Contains roots) ((Decides-eqb found.0 m).0 same) found.1))
+    (λ more. is_below found.0 found.1 ((reaches_decides rs differ found.0 m).0 more))
+    (or_cases (nat_eq found.0 m) (reaches rs found.0 m) found.2)
 
--- and the other way round
+-- the test says that a manifest is reached from the roots, where it is
 pub to_roots : (rs : List Reading) (roots : List ℕ) (m : ℕ) → LabelsDiffer rs → IsReachedFrom rs roots m
     → is_reached_from rs roots m ≡ true
 to_roots rs roots m differ (is_root c) =
@@ -279,14 +285,9 @@ to_roots rs roots m differ (is_root c) =
     (or_left (nat_eq m m) (reaches rs m m) ((Decides-eqb m m).1 refl))
 to_roots rs roots m differ (is_below c h r) =
     in_any (λ c. nat_eq c m || reaches rs c m) roots c h
-    (or_right (nat_eq c m) (reaches rs c m) ((reaches_decides rs differ c m).1 r))
+    (or_second (nat_eq c m) (reaches rs c m) ((reaches_decides rs differ c m).1 r))
 
--- a child of what is reached is reached
-one_more : (rs : List Reading) (a n m : ℕ) → Reaches rs a n → IsChild rs n m → Reaches rs a m
-one_more rs a n m (child _ _ h) next = through a n m h (child n m next)
-one_more rs a n m (through _ c _ h rest) next = through a c m h (one_more rs c n m rest next)
-
--- so what is reached from roots is closed under children
+-- what is reached from roots is closed under children
 pub roots_closed : (rs : List Reading) (roots : List ℕ) → LabelsDiffer rs → (n m : ℕ)
     → is_reached_from rs roots n ≡ true → IsChild rs n m → is_reached_from rs roots m ≡ true
 roots_closed rs roots differ n m e h = to_roots rs roots m differ (go (from_roots rs roots n differ e))
@@ -309,7 +310,8 @@ with_label : (rs : List Reading) (label : List ℕ) → has_manifest rs label �
     → (p : ℕ) × (r : Reading) × (slice_get rs p ≡ Some r) × (label_in r ≡ label)
 with_label rs label e =
     let found = from_any (λ (x : Reading). bytes_eq (label_in x) label) rs e in
-    let at = at_contains rs found.0 found.1 in (at.0, found.0, at.1, (bytes_eq-Decides (label_in found.0) label).0 found.2)
+    let at =
+    at_contains rs found.0 found.1 in (at.0, found.0, at.1, (bytes_eq-Decides (label_in found.0) label).0 found.2)
 
 -- labels in a row differ
 append_differ : (xs ys : List Reading) → LabelsDiffer xs → LabelsDiffer ys
@@ -324,11 +326,6 @@ append_differ xs ys dx dy apart i j r s e f g =
   where
     left : (i : ℕ) (r : Reading) → i < length xs → slice_get (xs ++ ys) i ≡ Some r → slice_get xs i ≡ Some r
     left i r lt e = sym (get_left xs ys i lt) ∙ e
-
--- what isn't so
-from_not : (a : Bool) → not a ≡ true → a ≡ false
-from_not true e = absurd (true≢false (sym e))
-from_not false e = refl
 
 -- two chains that don't clash stand in the joined one
 pub joins : (hash : Alg → List ℕ → List ℕ) (as_ bs : List Reading) (ra rb : List ℕ) → IsRooted hash as_ ra
@@ -345,9 +342,13 @@ joins hash as_ bs ra rb a b none = record {
   front = λ p lt. get_left as_ cs p lt;
   stands = λ i r e is. by_label i r e is (has_manifest as_ (label_in r)) refl;
   comes = λ p r le at.
-      let found = picked_of picks (p - length as_) bs r (from_right as_ cs p r le at) in (found.0, found.1, (both_true (reached found.0) (not (has_manifest as_ (label_in r))) found.2).0);
+      let found =
+      picked_of picks (p - length as_) bs r (from_right as_ cs p r le at) in
+      (found.0, found.1, (both_true (reached found.0) (not (has_manifest as_ (label_in r))) found.2).0);
   order = λ i k p q r s is ks at qs lp lq lt.
-      let h : q - length as_ < p - length as_ = picked_order picks 0 k i (q - length as_) (p - length as_) bs s r b.differ ks is lt (from_right as_ cs q s lq qs) (from_right as_ cs p r lp at) in omega (arith, lp, lq, h);
+      let h : q - length as_ < p - length as_ =
+      picked_order picks 0 k i (q - length as_) (p - length as_) bs s r b.differ ks is lt
+      (from_right as_ cs q s lq qs) (from_right as_ cs p r lp at) in omega (arith, lp, lq, h);
   hold_a = a.holds;
   hold_b = b.holds;
 }
@@ -365,7 +366,8 @@ joins hash as_ bs ra rb a b none = record {
     apart p q r s is at same =
         let found = picked_of picks q bs s at in
         no_label as_ p r (label_in s) is
-        (from_not (has_manifest as_ (label_in s)) (both_true (reached found.0) (not (has_manifest as_ (label_in s))) found.2).1) same
+        (not_true_is_false (has_manifest as_ (label_in s)) (both_true (reached found.0) (not (has_manifest as_ (label_in s))) found.2).1)
+        same
 
     by_label : (i : ℕ) (r : Reading) → reached i ≡ true → slice_get bs i ≡ Some r → (x : Bool)
         → has_manifest as_ (label_in r) ≡ x
@@ -387,14 +389,17 @@ root_of : (js bs : List Reading) (rb : List ℕ) (c : ℕ) → Contains (filter_
     → (i : ℕ) × (r : Reading) × Contains rb i × (slice_get bs i ≡ Some r) × (place_of js (label_in r) ≡ Some c)
 root_of js bs rb c h =
     let found = from_filter_map (place_in js bs) rb c h in
-    let at = from_and_then (λ (r : Reading). place_of js (label_in r)) (slice_get bs found.0) c found.2 in (found.0, at.0, found.1, at.1, at.2)
+    let at =
+    from_and_then (λ (r : Reading). place_of js (label_in r)) (slice_get bs found.0) c found.2 in
+    (found.0, at.0, found.1, at.1, at.2)
 
 -- what is reached in the joined chain from the roots of both
 pub joined_reached : (hash : Alg → List ℕ → List ℕ) (as_ bs js : List Reading) (ra rb : List ℕ) → IsRooted hash as_ ra
     → IsRooted hash bs rb → Joins hash as_ bs js (is_reached_from as_ ra) (is_reached_from bs rb)
     → IsReachedInJoin as_ bs js (is_reached_from as_ ra) (is_reached_from bs rb) (is_reached_from js (joined_roots ra bs rb js))
 joined_reached hash as_ bs js ra rb a b j = record {
-  front = λ p lt. same_test (is_reached_from js roots p) (is_reached_from as_ ra p) (λ h. was p lt (from_roots js roots p j.differ h)) (λ h. to_roots js roots p j.differ (is p (from_roots as_ ra p a.differ h)));
+  front =
+      λ p lt. same_test (is_reached_from js roots p) (is_reached_from as_ ra p) (λ h. was p lt (from_roots js roots p j.differ h)) (λ h. to_roots js roots p j.differ (is p (from_roots as_ ra p a.differ h)));
   carried = λ i p r e at there. to_roots js roots p j.differ (carries i p r at there (from_roots bs rb i b.differ e));
 }
   where
@@ -445,7 +450,7 @@ joined_reached hash as_ bs js ra rb a b j = record {
     carries i p r at there (is_root c) = is_root (root_in i p r at there c)
     carries i p r at there (is_below c k reach) =
         let lt : c < length bs = reach_within bs c i reach in
-        let top = Rattle.c2_chain_spec.proofs.Places.some_at bs c lt in
+        let top = some_at bs c lt in
         let e : is_reached_from bs rb c ≡ true = to_roots bs rb c b.differ (is_root k) in
         let s = j.stands c top.0 e top.1 in
         let to : ReachTo bs js s.0 i =
@@ -457,8 +462,8 @@ joined_reached hash as_ bs js ra rb a b j = record {
 -- ---- the law
 
 -- two chains that don't clash join to one
-pub chains_join : KeepsRules → ChainsJoin
-chains_join keeps hash as_ bs ra rb a b none =
+pub chains_join : ChainsJoin
+chains_join hash as_ bs ra rb a b none =
     let js : List Reading = joined as_ (is_reached_from bs rb) bs in
     let j = joins hash as_ bs ra rb a b none in
     let k = joined_reached hash as_ bs js ra rb a b j in
@@ -467,7 +472,7 @@ chains_join keeps hash as_ bs ra rb a b none =
         differ = j.differ;
         kinds = kinds js j;
         within = Rattle.c2_chain_spec.proofs.Places.all_members (λ c. c < length js) (joined_roots ra bs rb js) in_join;
-        holds = joined_hold keeps hash as_ bs js (is_reached_from as_ ra) (is_reached_from bs rb)
+        holds = joined_hold hash as_ bs js (is_reached_from as_ ra) (is_reached_from bs rb)
             (is_reached_from js (joined_roots ra bs rb js)) j k;
       };
       reached = record { front = k.front; carried = k.carried };

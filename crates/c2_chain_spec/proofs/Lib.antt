@@ -1,5 +1,8 @@
+pub mod Joining
 pub mod Places
+pub mod Rooting
 pub mod Seeing
 pub mod Standing
-pub mod Joining
-pub mod Rooting
+pub mod ChainLaws
+pub mod OlderRules
+pub mod OlderLaws

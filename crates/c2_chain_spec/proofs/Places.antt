@@ -9,34 +9,12 @@ use Rattle.c2_chain_spec.specs.Joined.{picked}
 
 -- ---- members
 
--- what stands at a place is a member
-pub contains_at : {X : Type 0} (xs : List X) (i : ℕ) (x : X) → slice_get xs i ≡ Some x → Contains xs x
-contains_at [] i x e = absurd (cc (e))
-contains_at (y ∷ ys) zero x e = subst (Contains (y ∷ ys)) (same_Some y x e) (contains_head y ys)
-contains_at (y ∷ ys) (suc i) x e = contains_tail y x ys (contains_at ys i x e)
-
--- a member stands at a place
-pub at_contains : {X : Type 0} (xs : List X) (x : X) → Contains xs x → (i : ℕ) × (slice_get xs i ≡ Some x)
-at_contains [] x c = absurd (contains_none x c)
-at_contains {X} (y ∷ ys) x c = by (at_contains ys x) (contains_cons y x ys c)
-  where
-    by : (Contains ys x → (i : ℕ) × (slice_get ys i ≡ Some x)) → (y ≡ x) ⊎ Contains ys x
-        → (i : ℕ) × (slice_get (y ∷ ys) i ≡ Some x)
-    by rest (inl same) = (0, ap Some same)
-    by rest (inr more) = let found = rest more in (suc found.0, found.1)
-
--- something stands at each place
-pub some_at : {X : Type 0} (xs : List X) (i : ℕ) → i < length xs → (x : X) × (slice_get xs i ≡ Some x)
-some_at [] i h = absurd (omega arith)
-some_at (x ∷ xs) zero h = (x, refl)
-some_at (x ∷ xs) (suc i) h = some_at xs i (omega arith)
-
 -- what holds of each member holds of all
 pub all_members : {X : Type 0} (P : X → Type 0) (xs : List X) → ((x : X) → Contains xs x → P x) → AllByRecursion P xs
 all_members P [] h = tt
 all_members P (x ∷ xs) h = (h x (contains_head x xs), all_members P xs (λ y c. h y (contains_tail x y xs c)))
 
--- and the other way round
+-- what holds of all members holds of each
 pub member_of : {X : Type 0} (P : X → Type 0) (xs : List X) (x : X) → AllByRecursion P xs → Contains xs x → P x
 member_of P [] x h c = absurd (contains_none x c)
 member_of {X} P (y ∷ ys) x h c = by (member_of P ys x h.1) (contains_cons y x ys c)
@@ -91,7 +69,7 @@ pub from_right : {X : Type 0} (xs ys : List X) (i : ℕ) (x : X) → length xs �
     → slice_get ys (i - length xs) ≡ Some x
 from_right xs ys i x le e = sym (get_right xs ys i le) ∙ e
 
--- and the other way round
+-- what stands in the second list stands behind the first
 pub to_right : {X : Type 0} (xs ys : List X) (j : ℕ) (x : X) → slice_get ys j ≡ Some x
     → slice_get (xs ++ ys) (length xs + j) ≡ Some x
 to_right xs ys j x e =
@@ -141,9 +119,10 @@ picked_from {X} p k q (y ∷ ys) x e = by (λ q e. picked_from p (k + 1) q ys x 
 pub picked_of : {X : Type 0} (p : ℕ → X → Bool) (q : ℕ) (xs : List X) (x : X) → slice_get (picked p 0 xs) q ≡ Some x
     → (i : ℕ) × (slice_get xs i ≡ Some x) × (p i x ≡ true)
 picked_of p q xs x e =
-    let found = picked_from p 0 q xs x e in (found.0, found.1, ap (λ n. p n x) (let f : found.0 ≡ 0 + found.0 = omega arith in f) ∙ found.2)
+    let found =
+    picked_from p 0 q xs x e in (found.0, found.1, ap (λ n. p n x) (let f : found.0 ≡ 0 + found.0 = omega arith in f) ∙ found.2)
 
--- and what passes is picked of it
+-- what passes in a list is picked of it
 pub picked_at : {X : Type 0} (p : ℕ → X → Bool) (i : ℕ) (xs : List X) (x : X) → slice_get xs i ≡ Some x → p i x ≡ true
     → (q : ℕ) × (slice_get (picked p 0 xs) q ≡ Some x)
 picked_at p i xs x e h = picked_in p 0 i xs x e (ap (λ n. p n x) (let f : 0 + i ≡ i = omega arith in f) ∙ h)

@@ -1,6 +1,6 @@
 -- The chain of one store is rooted at its last manifest: what is reached from there is what is reached, and all but the active one's
 -- part in the rules stays.
-use Rattle.std.proofs.Common.{◌≡◌, ⊎_elim, ℕ, zero, suc, ◌+◌, ◌-◌, ◌<◌, Bool, true, false, ◌||◌, cond, List, [], ◌∷◌, length, Option, Some, None, slice_get, refl, sym, ap, ◌∙◌, subst, arith}
+use Rattle.std.proofs.Common.{◌≡◌, ⊎_elim, ℕ, zero, suc, ◌+◌, ◌-◌, ◌<◌, Bool, false, ◌||◌, cond, List, [], ◌∷◌, length, Option, Some, None, slice_get, refl, sym, ap, ◌∙◌, subst, arith}
 use Rattle.std.specs.Prelude.{◌==◌, nat_eq, nat_lt}
 use Rattle.std.specs.List.{AllByRecursion}
 use Rattle.std.proofs.Math.Path.{fun_ext}
@@ -11,16 +11,13 @@ use Rattle.c2_rules.specs.Chains.{is_reached, is_redacted, lists_redacted, place
 use Rattle.c2_rules.specs.CheckList.{chain_tests, place_tests, tests_of}
 use Rattle.c2_rules.specs.Readings.{Reading}
 use Rattle.c2_rules.specs.Rules.{unjudged_tests}
-use Rattle.c2_rules.specs.Seen.{Seen, Standing, earlier_standing, later, place_standing, seen_at, standing_of}
+use Rattle.c2_rules.specs.Seen.{Standing, earlier_standing, later, place_standing, seen_at, standing_of}
 use Rattle.c2_rules.specs.Tests.{AllHold, Test, downward}
 use Rattle.c2_rules.proofs.Conditions.{Holds, all_each, all_hold}
-use Rattle.c2_chain_older_spec.specs.Older.{inactive}
 use Rattle.c2_chain_spec.specs.Rooted.{HoldBy, StoreIsRooted, is_reached_from, last_roots, lists_passing, place_standing_by, standing_by}
 use Rattle.c2_chain_spec.proofs.Seeing.{back, front}
-
--- the rules of a manifest hold once it is no longer the active one
-abbrev pub HoldInactive : Type 0
-HoldInactive = (hash : Alg → List ℕ → List ℕ) (s : Seen) → AllHold (unjudged_tests hash s) → AllHold (unjudged_tests hash (inactive s))
+use Rattle.c2_chain_spec.proofs.OlderRules.{when_inactive}
+use Rattle.c2_lemmas.proofs.Bools.{or_false}
 
 -- ---- what is reached
 
@@ -28,11 +25,6 @@ HoldInactive = (hash : Alg → List ℕ → List ℕ) (s : Seen) → AllHold (un
 pub last_within : (rs : List Reading) → AllByRecursion (λ c. c < length rs) (last_roots rs)
 last_within [] = tt
 last_within (r ∷ rs) = (omega arith, tt)
-
--- nothing is added
-or_none : (b : Bool) → (b || false) ≡ b
-or_none true = refl
-or_none false = refl
 
 -- one more than a place, and the place itself
 same_test : (i n : ℕ) → (i + 1 == suc n) ≡ nat_eq n i
@@ -47,7 +39,7 @@ last_active (r ∷ rs) i =
     let last : suc (length rs) - 1 ≡ length rs = omega arith in
     ap (λ b. b || reaches (r ∷ rs) (suc (length rs) - 1) i) (same_test i (length rs))
     ∙ ap (λ m. nat_eq (length rs) i || reaches (r ∷ rs) m i) last
-    ∙ sym (or_none (nat_eq (length rs) i || reaches (r ∷ rs) (length rs) i))
+    ∙ sym (or_false (nat_eq (length rs) i || reaches (r ∷ rs) (length rs) i))
 
 -- ---- what the rules see
 
@@ -65,16 +57,17 @@ stands_same rs i (Some m) =
     ap (λ b. cond (nat_lt m i) (earlier_standing b (slice_get rs m)) later) (touched_same rs m (slice_get rs m))
 
 -- what holds of all places holds of each
-downward_each : (f : ℕ → List Test) (n i : ℕ) → AllByRecursion Holds (downward f n) → i < n → AllByRecursion Holds (f i)
+pub downward_each : (f : ℕ → List Test) (n i : ℕ) → AllByRecursion Holds (downward f n) → i < n
+    → AllByRecursion Holds (f i)
 downward_each f zero i h lt = absurd (omega arith)
 downward_each f (suc n) i h lt =
     ⊎_elim (λ e. subst (λ k. AllByRecursion Holds (f k)) (sym e) (front (f n) (downward f n) h))
     (λ other. downward_each f n i (back (f n) (downward f n) h) (omega (arith, other))) (cases_eq i n)
 
 -- the rules of each reached manifest hold of it as no longer the active one
-pub place_hold : HoldInactive → (hash : Alg → List ℕ → List ℕ) (rs : List Reading)
+pub place_hold : (hash : Alg → List ℕ → List ℕ) (rs : List Reading)
     → AllHold (chain_tests (unjudged_tests hash) rs) → HoldBy hash (is_reached rs) rs
-place_hold law hash rs h i r reached is =
+place_hold hash rs h i r reached is =
     let place : AllByRecursion Holds (place_tests (unjudged_tests hash) rs i) =
     downward_each (place_tests (unjudged_tests hash) rs) (length rs) i
     (all_each (chain_tests (unjudged_tests hash) rs) h) (slice_get_within rs i r is) in
@@ -84,14 +77,15 @@ place_hold law hash rs h i r reached is =
     let standing : standing_of rs i ≡ standing_by (is_reached rs) rs i =
     fun_ext (λ label. stands_same rs i (place_of rs label)) in
     subst
-    (λ (f : List ℕ → Standing). AllHold (unjudged_tests hash (record { own = r; is_active = false; is_redacted = is_redacted rs i; standing = f }))) standing
-    (law hash (seen_at rs i r) (all_hold (unjudged_tests hash (seen_at rs i r)) at))
+    (λ (f : List ℕ → Standing). AllHold (unjudged_tests hash (record { own = r; is_active = false; is_redacted = is_redacted rs i; standing = f })))
+    standing
+    (when_inactive hash (seen_at rs i r) (all_hold (unjudged_tests hash (seen_at rs i r)) at))
 
--- so the chain is rooted there
-pub store_rooted : HoldInactive → StoreIsRooted
-store_rooted law hash rs differ kinds h = record {
+-- the chain of a store is rooted at its last manifest
+pub store_rooted : StoreIsRooted
+store_rooted hash rs differ kinds h = record {
   differ = differ;
   kinds = kinds;
   within = last_within rs;
-  holds = subst (λ (f : ℕ → Bool). HoldBy hash f rs) (fun_ext (λ i. last_active rs i)) (place_hold law hash rs h);
+  holds = subst (λ (f : ℕ → Bool). HoldBy hash f rs) (fun_ext (λ i. last_active rs i)) (place_hold hash rs h);
 }

@@ -23,11 +23,13 @@ use Rattle.c2_rules.specs.Tests.{AllHold, Test, each, over_all, test}
 use Rattle.c2_rules.specs.declared.code.Code.TheVariants.{ProfileAssertionUri}
 use Rattle.c2_rules.specs.declared.parsed.Parsed.{Parsed}
 use Rattle.c2_rules.specs.declared.parsed.Parsed.TheVariants.{NoItem, NoForm, Value}
-use Rattle.c2_rules.proofs.ListLemmas.{contains_cons, contains_none, or_cases}
+use Rattle.c2_rules.proofs.ListLemmas.{contains_cons, contains_none}
 use Rattle.c2_rules.proofs.Conditions.{Holds}
-use Rattle.c2_chain_older_spec.specs.Older.{Alike, Loses, StaysAlike, has_signature, is_kept}
+use Rattle.c2_chain_spec.specs.Older.{Alike, StaysAlike, has_signature, is_kept}
 use Rattle.c2_chain_spec.specs.Rooted.{ReadsKinds, lists_passing, place_standing_by, seen_by, standing_by, touched_by}
 use Rattle.c2_chain_spec.proofs.Places.{all_members, member_of}
+use Rattle.c2_chain_spec.proofs.OlderRules.{without_boxes}
+use Rattle.c2_lemmas.proofs.Bools.{or_cases, or_second}
 
 -- ---- lists of tests
 
@@ -36,7 +38,7 @@ pub front : (xs ys : List Test) → AllByRecursion Holds (xs ++ ys) → AllByRec
 front [] ys h = tt
 front (x ∷ xs) ys h = (h.0, front xs ys h.1)
 
--- and of the second
+-- what holds of two lists in a row holds of the second
 pub back : (xs ys : List Test) → AllByRecursion Holds (xs ++ ys) → AllByRecursion Holds ys
 back [] ys h = h
 back (x ∷ xs) ys h = back xs ys h.1
@@ -61,13 +63,14 @@ by_box true (Some x) e f = absurd (true≢false e)
 by_box false None e f = absurd (true≢false f)
 by_box false (Some x) e f = refl
 
--- of one of these entries
+-- a label that one of these entries lists is redacted exactly where no box has it
 entry_lacks : (hash : Alg → List ℕ → List ℕ) (s : Seen) (label : List ℕ) (k : ℕ) (es : List Ref)
     → AllByRecursion Holds (each (entry_tests hash s) k es) → lists_label s.own.manifest es label ≡ true
     → s.is_redacted label ≡ is_none (box_with s.own label)
 entry_lacks hash s label k [] h e = absurd (false≢true e)
 entry_lacks hash s label k (x ∷ xs) h e =
-    ⊎_elim (λ own. here (given_is (entry_label s.own.manifest x) label own) (front (entry_tests hash s k x) (each (entry_tests hash s) (k + 1) xs) h))
+    ⊎_elim
+    (λ own. here (given_is (entry_label s.own.manifest x) label own) (front (entry_tests hash s k x) (each (entry_tests hash s) (k + 1) xs) h))
     (λ more. entry_lacks hash s label (k + 1) xs (back (entry_tests hash s k x) (each (entry_tests hash s) (k + 1) xs) h) more)
     (or_cases (is_given (entry_label s.own.manifest x) label) (lists_label s.own.manifest xs label) e)
   where
@@ -84,7 +87,7 @@ record Parts (hash : Alg → List ℕ → List ℕ) (s : Seen) : Type 0 where
   entries : AllByRecursion Holds (each (entry_tests hash s) 0 (entries_in s.own))
   forms : AllByRecursion Holds (each (λ k b. form_tests s b) 0 s.own.boxes)
 
--- they hold where all do
+-- the parts of the rules after the verdict hold where all do
 parts : (hash : Alg → List ℕ → List ℕ) (s : Seen) → AllByRecursion Holds (unjudged_tests hash s) → Parts hash s
 parts hash s h =
     let v8 : List Test = each (λ k b. ingredient_tests hash s b) 0 s.own.boxes in
@@ -186,7 +189,7 @@ lists_same m f g [] same = refl
 lists_same m f g (e ∷ es) same =
     ap (λ b. b || list_any (λ (e : Ref). passes_some f (entry_label m e)) es) (here (entry_label m e) refl)
     ∙ ap (λ b. passes_some g (entry_label m e) || b)
-    (lists_same m f g es (λ label more. same label (Rattle.c2_rules.proofs.ListLemmas.or_right (is_given (entry_label m e) label) (lists_label m es label) more)))
+    (lists_same m f g es (λ label more. same label (or_second (is_given (entry_label m e) label) (lists_label m es label) more)))
   where
     here : (o : Option (List ℕ)) → entry_label m e ≡ o → passes_some f o ≡ passes_some g o
     here None is = refl
@@ -194,7 +197,7 @@ lists_same m f g (e ∷ es) same =
         same label
         (Rattle.c2_rules.proofs.ListLemmas.or_left (is_given (entry_label m e) label) (lists_label m es label) (is_given_back (entry_label m e) label is))
 
--- so a manifest is touched in both or in neither
+-- a manifest is touched in both chains or in neither, where its entries pass alike
 pub passing_same : (r : Reading) (f g : List ℕ → Bool)
     → ((label : List ℕ) → lists_label r.manifest (entries_in r) label ≡ true → f label ≡ g label)
     → lists_passing f (Some r) ≡ lists_passing g (Some r)
@@ -202,15 +205,11 @@ passing_same r f g same = lists_same r.manifest f g (entries_in r) same
 
 -- ---- seen again
 
--- where the rules of a manifest hold, they hold once it lost boxes
-abbrev pub KeepsRules : Type 0
-KeepsRules = (hash : Alg → List ℕ → List ℕ) (out : List ℕ → Bool) (was now : Seen) → Loses out was now → AllHold (unjudged_tests hash was) → AllHold (unjudged_tests hash now)
-
 -- none is taken out
 abbrev none_out : List ℕ → Bool
 none_out label = false
 
--- so each box is kept
+-- where nothing is taken out, each box is kept
 box_kept : (b : ReadBox) → is_kept none_out b ≡ true
 box_kept b = go b.boxed.label
   where
@@ -218,7 +217,7 @@ box_kept b = go b.boxed.label
     go None = refl
     go (Some l) = refl
 
--- and all are
+-- where nothing is taken out, all boxes are kept
 boxes_kept : (bs : List ReadBox) → filter (is_kept none_out) bs ≡ bs
 boxes_kept [] = refl
 boxes_kept (b ∷ bs) =
@@ -242,10 +241,10 @@ pub record SeenAgain (was now : Seen) : Type 0 where
   pub standing : (b : ReadBox) (label : List ℕ) → Contains was.own.boxes b → named_in b ≡ Some label
       → now.standing label ≡ was.standing label
 
--- its rules hold again
-pub hold_again : KeepsRules → (hash : Alg → List ℕ → List ℕ) (was now : Seen) → SeenAgain was now
+-- the rules of a manifest that is seen again hold again
+pub hold_again : (hash : Alg → List ℕ → List ℕ) (was now : Seen) → SeenAgain was now
     → AllHold (unjudged_tests hash was) → AllHold (unjudged_tests hash now)
-hold_again keeps hash was now h k = keeps hash none_out was now (record {
+hold_again hash was now h k = without_boxes hash none_out was now (record {
   contents = was.own.manifest.contents;
   assertions = was.own.manifest.assertions;
   own = h.own

@@ -1,5 +1,5 @@
 -- What is reached, redacted and touched where the manifests of two chains stand in one: as it was in each.
-use Rattle.std.proofs.Common.{◌≡◌, ⊎_elim, ◌↔◌, ℕ, ◌<◌, ◌≤◌, Bool, true, false, ◌&&◌, cond, List, length, Option, Some, None, slice_get, Contains, refl, sym, ap, ◌∙◌, subst, arith}
+use Rattle.std.proofs.Common.{◌≡◌, ⊎_elim, ◌↔◌, ℕ, ◌<◌, ◌≤◌, Bool, true, ◌&&◌, cond, List, length, Option, Some, None, slice_get, Contains, refl, sym, ap, ◌∙◌, subst, arith}
 use Rattle.std.specs.List.{AllByRecursion}
 use Rattle.std.proofs.lemmas.Bool.{cases_lt, lt-ltb}
 use Rattle.std.proofs.lemmas.Option.{same_Some, slice_get_within}
@@ -9,19 +9,14 @@ use Rattle.c2_rules.specs.Chains.Reaches.{child, through}
 use Rattle.c2_rules.specs.Readings.{Reading}
 use Rattle.c2_rules.specs.Rules.{unjudged_tests}
 use Rattle.c2_rules.specs.Seen.{child_standing, earlier_standing, later}
-use Rattle.c2_rules.proofs.ListLemmas.{and_true, both_true, from_below, in_below}
+use Rattle.c2_rules.proofs.ListLemmas.{from_below, in_below}
 use Rattle.c2_rules.proofs.ReachLemmas.{placed, reaches_decides}
 use Rattle.c2_rules.proofs.Conditions.{Holds, all_each}
 use Rattle.c2_chain_spec.specs.Rooted.{AllReadKinds, HoldBy, IsRedactedBy, lists_passing, place_standing_by, redacted_by, seen_by, standing_by, touched_by}
 use Rattle.c2_chain_spec.proofs.Seeing.{IsBefore, named_before}
+use Rattle.c2_lemmas.proofs.Bools.{and_true, both_true}
 
 -- ---- one chain
-
--- two tests that pass together
-pub same_test : (a b : Bool) → (a ≡ true → b ≡ true) → (b ≡ true → a ≡ true) → a ≡ b
-same_test true b f g = sym (f refl)
-same_test false true f g = g refl
-same_test false false f g = refl
 
 -- what is reached stands earlier
 pub reach_down : (rs : List Reading) (n m : ℕ) → Reaches rs n m → m < n
@@ -128,14 +123,16 @@ child_front : (hash : Alg → List ℕ → List ℕ) (as_ bs js : List Reading) 
 child_front hash as_ bs js ra rb n m j h =
     let below : n < length as_ = slice_get_within as_ n h.user h.is_user in
     let earlier : m < n = h.earlier in
-    record { earlier = h.earlier; user = h.user; is_user = j.front n below ∙ h.is_user; box = h.box; has_box = h.has_box; child = h.child; is_child = j.front m (omega (arith, below, earlier)) ∙ h.is_child; names = h.names }
+    record
+    { earlier = h.earlier; user = h.user; is_user = j.front n below ∙ h.is_user; box = h.box; has_box = h.has_box; child = h.child; is_child = j.front m (omega (arith, below, earlier)) ∙ h.is_child; names = h.names }
 
--- and the other way round
+-- a child in the joined chain of a manifest in front is its child in front
 child_back : (hash : Alg → List ℕ → List ℕ) (as_ bs js : List Reading) (ra rb : ℕ → Bool) (n m : ℕ)
     → Joins hash as_ bs js ra rb → n < length as_ → IsChild js n m → IsChild as_ n m
 child_back hash as_ bs js ra rb n m j below h =
     let earlier : m < n = h.earlier in
-    record { earlier = h.earlier; user = h.user; is_user = sym (j.front n below) ∙ h.is_user; box = h.box; has_box = h.has_box; child = h.child; is_child = sym (j.front m (omega (arith, below, earlier))) ∙ h.is_child; names = h.names }
+    record
+    { earlier = h.earlier; user = h.user; is_user = sym (j.front n below) ∙ h.is_user; box = h.box; has_box = h.has_box; child = h.child; is_child = sym (j.front m (omega (arith, below, earlier))) ∙ h.is_child; names = h.names }
 
 -- what is reached in front
 pub reach_front : (hash : Alg → List ℕ → List ℕ) (as_ bs js : List Reading) (ra rb : ℕ → Bool) (n m : ℕ)
@@ -144,7 +141,7 @@ reach_front hash as_ bs js ra rb n m j (child _ _ h) = child n m (child_front ha
 reach_front hash as_ bs js ra rb n m j (through _ c _ h rest) =
     through n c m (child_front hash as_ bs js ra rb n c j h) (reach_front hash as_ bs js ra rb c m j rest)
 
--- and the other way round
+-- what is reached in the joined chain from a manifest in front is reached in front
 pub reach_back : (hash : Alg → List ℕ → List ℕ) (as_ bs js : List Reading) (ra rb : ℕ → Bool) (n m : ℕ)
     → Joins hash as_ bs js ra rb → n < length as_ → Reaches js n m → Reaches as_ n m
 reach_back hash as_ bs js ra rb n m j below (child _ _ h) = child n m (child_back hash as_ bs js ra rb n m j below h)
@@ -171,7 +168,7 @@ pub holds_b : (hash : Alg → List ℕ → List ℕ) (as_ bs js : List Reading) 
     → AllByRecursion Holds (unjudged_tests hash (seen_by rb bs i r))
 holds_b hash as_ bs js ra rb i r j e is = all_each (unjudged_tests hash (seen_by rb bs i r)) (j.hold_b i r e is)
 
--- those of one in front
+-- the rules of a manifest of the chain in front, as it is seen there
 pub holds_a : (hash : Alg → List ℕ → List ℕ) (as_ bs js : List Reading) (ra rb : ℕ → Bool) (p : ℕ) (r : Reading)
     → Joins hash as_ bs js ra rb → ra p ≡ true → slice_get as_ p ≡ Some r
     → AllByRecursion Holds (unjudged_tests hash (seen_by ra as_ p r))
@@ -189,7 +186,9 @@ pub child_to : (hash : Alg → List ℕ → List ℕ) (as_ bs js : List Reading)
     → ChildTo bs js p k
 child_to hash as_ bs js ra rb i p k r j e is at h = record {
   place = q;
-  is_child = record { earlier = earlier; user = r; is_user = at; box = h.box; has_box = subst (λ (x : Reading). Contains x.boxes h.box) user h.has_box; child = h.child; is_child = found.1; names = h.names };
+  is_child =
+      record
+      { earlier = earlier; user = r; is_user = at; box = h.box; has_box = subst (λ (x : Reading). Contains x.boxes h.box) user h.has_box; child = h.child; is_child = found.1; names = h.names };
   stands = record { own = h.child; here = h.is_child; there = found.1 };
 }
   where
@@ -247,7 +246,8 @@ child_from hash as_ bs js ra rb i p q r j e is at h =
     record { earlier = b.earlier; user = r; is_user = is; box = h.box; has_box = has; child = c.0; is_child = c.1; names = h.names ∙ ap Some (sym c.2) } in
     let found = j.stands b.place c.0 (j.closed_b i b.place e child_is) c.1 in
     let same : found.0 ≡ q = j.differ found.0 q c.0 h.child found.1 h.is_child c.2 in
-    record { place = b.place; is_child = child_is; stands = record { own = c.0; here = c.1; there = subst (λ k. slice_get js k ≡ Some c.0) same found.1 } }
+    record
+    { place = b.place; is_child = child_is; stands = record { own = c.0; here = c.1; there = subst (λ k. slice_get js k ≡ Some c.0) same found.1 } }
 
 -- what is reached in the joined chain, and where it stood
 pub record ReachTo (bs js : List Reading) (p k : ℕ) : Type 0 where
@@ -266,7 +266,8 @@ reach_to hash as_ bs js ra rb i p k r j e is at (through _ n _ h rest) =
     let c : ChildTo bs js p n = child_to hash as_ bs js ra rb i p n r j e is at h in
     let more : ReachTo bs js c.place k =
     reach_to hash as_ bs js ra rb n c.place k c.stands.own j (j.closed_b i n e h) c.stands.here c.stands.there rest in
-    record { place = more.place; reaches_it = through p c.place more.place c.is_child more.reaches_it; stands = more.stands }
+    record
+    { place = more.place; reaches_it = through p c.place more.place c.is_child more.reaches_it; stands = more.stands }
 
 -- what is reached in the other chain, and where it stands
 pub record ReachFrom (bs js : List Reading) (i q : ℕ) : Type 0 where
@@ -286,4 +287,5 @@ reach_from hash as_ bs js ra rb i p q r j e is at (through _ n _ h rest) =
     let more : ReachFrom bs js c.place q =
     reach_from hash as_ bs js ra rb c.place n q c.stands.own j
     (j.closed_b i c.place e c.is_child) c.stands.here c.stands.there rest in
-    record { place = more.place; reaches_it = through i c.place more.place c.is_child more.reaches_it; stands = more.stands }
+    record
+    { place = more.place; reaches_it = through i c.place more.place c.is_child more.reaches_it; stands = more.stands }

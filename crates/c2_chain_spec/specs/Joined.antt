@@ -58,7 +58,7 @@ pub record JoinIs (hash : Alg → List ℕ → List ℕ) (old : List Reading) (r
   pub reached : IsReachedInJoin old other all (is_reached_from old roots) (is_reached_from other others)
       (is_reached_from all (joined_roots roots other others all))
 
--- so it is with each two
+-- each two rooted chains that don't clash join to one
 abbrev pub ChainsJoin : Type 0
 ChainsJoin = (hash : Alg → List ℕ → List ℕ) (old other : List Reading) (roots others : List ℕ)
     → IsRooted hash old roots → IsRooted hash other others

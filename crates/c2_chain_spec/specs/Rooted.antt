@@ -22,11 +22,11 @@ pub data IsReachedFrom (rs : List Reading) (roots : List ℕ) (m : ℕ) : Type 0
   is_root : Contains roots m → IsReachedFrom rs roots m
   is_below : (c : ℕ) → Contains roots c → Reaches rs c m → IsReachedFrom rs roots m
 
--- the same as a test
+-- whether the manifest at `m` stands at one of these places, or is reached from one by child steps
 abbrev pub is_reached_from : List Reading → List ℕ → ℕ → Bool
 is_reached_from rs roots m = list_any (λ c. nat_eq c m || reaches rs c m) roots
 
--- the test decides it where the labels differ
+-- where the labels of manifests differ, the test decides whether one stands at these places or is reached from them
 abbrev pub RootsDecide : Type 0
 RootsDecide = (rs : List Reading) (roots : List ℕ) (m : ℕ) → LabelsDiffer rs
     → (is_reached_from rs roots m ≡ true) ↔ IsReachedFrom rs roots m
@@ -45,14 +45,14 @@ pub record IsRedactedBy (reached : ℕ → Bool) (rs : List Reading) (m : ℕ) (
   pub at_target : slice_get rs m ≡ Some target
   pub does : redacts (Some redactor) (Some target) label ≡ true
 
--- the same as a test
+-- whether this label is redacted in the manifest at `m`, where these manifests are reached
 abbrev pub redacted_by : (ℕ → Bool) → List Reading → ℕ → List ℕ → Bool
 redacted_by reached rs m label =
     any_below
     (λ n. reached n && reaches rs n m && redacts (slice_get rs n) (slice_get rs m) label)
     (length rs)
 
--- the test decides it where the labels differ
+-- where the labels of manifests differ, the test decides whether a label is redacted in one
 abbrev pub RedactionsDecide : Type 0
 RedactionsDecide = (reached : ℕ → Bool) (rs : List Reading) (m : ℕ) (label : List ℕ)
     → LabelsDiffer rs → (redacted_by reached rs m label ≡ true) ↔ IsRedactedBy reached rs m label
@@ -102,7 +102,7 @@ abbrev pub ReadsKinds : Reading → Type 0
 ReadsKinds r =
     AllByRecursion (λ (b : ReadBox). is_ingredient b.boxed ≡ false → value_in b.ingredient ≡ None) r.boxes
 
--- so it is in each manifest
+-- in each of these manifests a box of no ingredient is read as none
 abbrev pub AllReadKinds : List Reading → Type 0
 AllReadKinds rs = (i : ℕ) (r : Reading) → slice_get rs i ≡ Some r → ReadsKinds r
 

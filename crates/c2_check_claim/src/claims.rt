@@ -10,13 +10,13 @@ ghost use Rattle.c2_rules.specs.Tests.{first_failing};
 use c2_base::NoMemory;
 use c2_check_facts::{at_claim, at_manifest, at_signature, claim_label};
 use c2_claim::claim_version;
-use c2_read_manifests::{Kept, is_own};
+use c2_read_manifests::{ReadManifest, is_own};
 use c2_rules::{Code, Failing, Parsed};
 use c2_uri::{Target, parse};
 use std::alloc::Global;
 
 /// Whether the claim box has the label of a version that is read.
-fn is_known_version(own: &Kept<'_>) -> bool
+fn is_known_version(own: &ReadManifest<'_>) -> bool
     ensures { result ≡ is_some
         (option_and_then form.claim_version (rules.claim_label own.now.manifest.claims)) }
 {
@@ -35,7 +35,7 @@ fn is_signature(target: &Target<'_>) -> bool
     }
 }
 
-fn is_signature_uri(own: &Kept<'_>, text: &str) -> bool
+fn is_signature_uri(own: &ReadManifest<'_>, text: &str) -> bool
     ensures { result ≡ questions.is_signature_uri own.now.manifest (uri_of text.now) }
 {
     match parse(text) {
@@ -45,7 +45,7 @@ fn is_signature_uri(own: &Kept<'_>, text: &str) -> bool
 }
 
 /// Whether there is a signature box, and the claim names it.
-pub fn names_signature(own: &Kept<'_>) -> bool
+pub fn names_signature(own: &ReadManifest<'_>) -> bool
     ensures { result ≡ readings.names_signature own.now.manifest (readings.claim_in own.now) }
 {
     match &own.claim {
@@ -56,7 +56,7 @@ pub fn names_signature(own: &Kept<'_>) -> bool
 }
 
 /// The first of the rules on the claim and its signature that fails.
-pub fn check_claim(alloc: Global, own: &Kept<'_>) -> Result<Option<Failing>, NoMemory>
+pub fn check_claim(alloc: Global, own: &ReadManifest<'_>) -> Result<Option<Failing>, NoMemory>
     ensures { IfOk result (λ found. found ≡ first_failing (rules.claim_tests own.now)) }
 {
     if own.claims.is_empty() {

@@ -14,7 +14,7 @@ use c2_assertion::{Kind, kind};
 use c2_base::NoMemory;
 use c2_check_facts::{at_assertion, at_claim, has_digest, is_known};
 use c2_hash::Hashing;
-use c2_read_manifests::{AssertionBox, Kept, Placed, is_redacted, label};
+use c2_read_manifests::{AssertionBox, Placed, ReadManifest, is_redacted, label};
 use c2_rules::{Code, Failing};
 use c2_spec::Ref;
 use std::alloc::Global;
@@ -40,7 +40,7 @@ fn is_cloud(name: &str) -> bool
 }
 
 /// The assertion box with this label: a single look-up goes over the boxes.
-pub fn box_with<'c, 't>(own: &'c Kept<'t>, name: &str) -> Option<&'c AssertionBox<'t>>
+pub fn box_with<'c, 't>(own: &'c ReadManifest<'t>, name: &str) -> Option<&'c AssertionBox<'t>>
     ensures { option_copied result ≡ rules.box_with own.now name.now }
 {
     own.boxes.iter().find(|b| is_labelled(b, name))
@@ -49,7 +49,7 @@ pub fn box_with<'c, 't>(own: &'c Kept<'t>, name: &str) -> Option<&'c AssertionBo
 /// Whether the box is there with the digest of this entry.
 fn box_has_digest<H: Hashing>(
     hashing: &H,
-    own: &Kept<'_>,
+    own: &ReadManifest<'_>,
     entry: &Ref,
     found: Option<&AssertionBox<'_>>,
 ) -> bool

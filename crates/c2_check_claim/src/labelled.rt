@@ -8,7 +8,7 @@ ghost use Rattle.c2_check_claim.specs.Labelled.{box_labels, entry_labels};
 
 use c2_base::NoMemory;
 use c2_label_index::{Places, add_place, first_place, no_places};
-use c2_read_manifests::{AssertionBox, Kept, box_label, boxes, entry_label};
+use c2_read_manifests::{AssertionBox, ReadManifest, box_label, boxes, entry_label};
 use c2_rules::Parsed;
 use c2_spec::Ref;
 use std::alloc::Global;
@@ -17,7 +17,7 @@ use std::marker::Model;
 /// A manifest; its entries in their order; and where each label stands first among its boxes, and among its entries.
 #[derive(Drop)]
 pub struct Labelled<'c, 't> {
-    own: &'c Kept<'t>,
+    own: &'c ReadManifest<'t>,
     entries: Vec<&'c Ref>,
     box_places: Places<'c>,
     entry_places: Places<'c>,
@@ -50,7 +50,7 @@ fn push_entries<'c>(found: &mut Vec<&'c Ref>, entries: &'c [Ref]) -> Result<(), 
 }
 
 /// The entries of a manifest's claim, in their order.
-fn list_entries<'c>(alloc: Global, own: &'c Kept<'_>) -> Result<Vec<&'c Ref>, NoMemory>
+fn list_entries<'c>(alloc: Global, own: &'c ReadManifest<'_>) -> Result<Vec<&'c Ref>, NoMemory>
     ensures { IfOk result (λ v. map (λ x. x.now) v.items ≡ entries_in own.now) }
 {
     let mut found = Vec::new(alloc);
@@ -84,7 +84,7 @@ fn entry_among<'c>(entries: &[&'c Ref], k: usize) -> &'c Ref
 /// Where the labels that these entries of a manifest list stand first.
 fn places_of_entries<'c>(
     alloc: Global,
-    own: &Kept<'_>,
+    own: &ReadManifest<'_>,
     entries: &[&'c Ref],
 ) -> Result<Places<'c>, NoMemory>
     ensures { IfOk result
@@ -99,7 +99,10 @@ fn places_of_entries<'c>(
 }
 
 /// A manifest with its boxes and entries by their labels.
-pub fn with_labels<'c, 't>(alloc: Global, own: &'c Kept<'t>) -> Result<Labelled<'c, 't>, NoMemory>
+pub fn with_labels<'c, 't>(
+    alloc: Global,
+    own: &'c ReadManifest<'t>,
+) -> Result<Labelled<'c, 't>, NoMemory>
     ensures { IfOk result (λ m. m ≡ own.now) }
 {
     let entries = list_entries(alloc, own)?;
@@ -114,7 +117,7 @@ pub fn with_labels<'c, 't>(alloc: Global, own: &'c Kept<'t>) -> Result<Labelled<
 }
 
 /// The manifest.
-pub fn owner<'c, 't>(m: &Labelled<'c, 't>) -> &'c Kept<'t>
+pub fn owner<'c, 't>(m: &Labelled<'c, 't>) -> &'c ReadManifest<'t>
     ensures { result.now ≡ m.now }
 {
     m.own

@@ -9,7 +9,7 @@ ghost use Rattle.c2_rules.specs.Tests.{each, first_failing};
 use c2_assertion::Kind;
 use c2_base::{NoMemory, Text};
 use c2_check_facts::{at_assertion, at_claim, is_hash, label_kind};
-use c2_read_manifests::{Kept, label};
+use c2_read_manifests::{ReadManifest, label};
 use c2_rules::{Code, Failing, Parsed};
 use c2_uri::{Target, parse};
 use std::alloc::Global;
@@ -55,7 +55,7 @@ fn target_label<'u>(own: &'u str, manifest: Option<&'u str>) -> &'u str
 /// What fails of the redaction of the assertion with this label.
 fn check_target(
     alloc: Global,
-    own: &Kept<'_>,
+    own: &ReadManifest<'_>,
     manifest: Option<&str>,
     name: &str,
 ) -> Result<Option<Failing>, NoMemory>
@@ -84,7 +84,7 @@ fn check_target(
 /// What fails of the redaction of what this target is.
 fn check_named(
     alloc: Global,
-    own: &Kept<'_>,
+    own: &ReadManifest<'_>,
     manifest: Option<&str>,
     target: &Target<'_>,
 ) -> Result<Option<Failing>, NoMemory>
@@ -102,7 +102,11 @@ fn check_named(
 }
 
 /// What fails of a redaction.
-fn check_redaction(alloc: Global, own: &Kept<'_>, text: &Text) -> Result<Option<Failing>, NoMemory>
+fn check_redaction(
+    alloc: Global,
+    own: &ReadManifest<'_>,
+    text: &Text,
+) -> Result<Option<Failing>, NoMemory>
     ensures { let tests =
         rules.redaction_tests (label_in own.now) (rules.claim_uri own.now) text.now in
         IfOk result (λ found. found ≡ first_failing tests) }
@@ -117,7 +121,7 @@ fn check_redaction(alloc: Global, own: &Kept<'_>, text: &Text) -> Result<Option<
 #[tactic(auto, using(c2_rules::proofs::TestLemmas::each_passed))]
 pub fn check_redactions(
     alloc: Global,
-    own: &Kept<'_>,
+    own: &ReadManifest<'_>,
     texts: &[Text],
 ) -> Result<Option<Failing>, NoMemory>
     ensures { let tests =
@@ -135,7 +139,10 @@ pub fn check_redactions(
 }
 
 /// What fails first of a manifest's redactions.
-pub fn check_own_redactions(alloc: Global, own: &Kept<'_>) -> Result<Option<Failing>, NoMemory>
+pub fn check_own_redactions(
+    alloc: Global,
+    own: &ReadManifest<'_>,
+) -> Result<Option<Failing>, NoMemory>
     ensures { let tests =
         each (λ k text. rules.redaction_tests (label_in own.now)
         (rules.claim_uri own.now) text) 0 (redactions_in own.now) in

@@ -6,11 +6,11 @@ ghost use Rattle.c2_rules.specs.Rules as rules;
 use crate::kept_digests::Digests;
 use c2_base::Text;
 use c2_hash::{Alg, Hashing, alg_of, digest_of};
-use c2_read_manifests::Kept;
+use c2_read_manifests::ReadManifest;
 use c2_rules::Parsed;
 
 /// The algorithm that a claim names.
-fn claim_alg<'c>(own: &'c Kept<'_>) -> Option<&'c str>
+fn claim_alg<'c>(own: &'c ReadManifest<'_>) -> Option<&'c str>
     ensures { option_map (λ x. x.now) result ≡ rules.claim_alg_in own.now }
 {
     match &own.claim {
@@ -23,7 +23,7 @@ fn claim_alg<'c>(own: &'c Kept<'_>) -> Option<&'c str>
 }
 
 /// The name of the algorithm of a reference: its own where it has one, else the claim's, else `sha256`.
-pub fn alg_name<'c>(own: &'c Kept<'_>, alg: &'c Option<Text>) -> &'c str
+pub fn alg_name<'c>(own: &'c ReadManifest<'_>, alg: &'c Option<Text>) -> &'c str
     ensures { result.now ≡ rules.alg_in own.now alg.now }
 {
     match alg {
@@ -36,7 +36,7 @@ pub fn alg_name<'c>(own: &'c Kept<'_>, alg: &'c Option<Text>) -> &'c str
 }
 
 /// Whether the algorithm of a reference is known.
-pub fn is_known(own: &Kept<'_>, alg: &Option<Text>) -> bool
+pub fn is_known(own: &ReadManifest<'_>, alg: &Option<Text>) -> bool
     ensures { result ≡ rules.is_known own.now alg.now }
 {
     alg_of(alg_name(own, alg)).is_some()
@@ -45,7 +45,7 @@ pub fn is_known(own: &Kept<'_>, alg: &Option<Text>) -> bool
 /// Whether a list has this digest, by the algorithm of a reference.
 pub fn has_digest<H: Hashing>(
     hashing: &H,
-    own: &Kept<'_>,
+    own: &ReadManifest<'_>,
     alg: &Option<Text>,
     list: &[u8],
     digest: &[u8],
@@ -80,7 +80,7 @@ fn has_kept_digest<H: Hashing>(
 /// Whether a list has this digest, by the algorithm of a reference, where these are digests of the list.
 pub fn has_known_digest<H: Hashing>(
     hashing: &H,
-    own: &Kept<'_>,
+    own: &ReadManifest<'_>,
     alg: &Option<Text>,
     list: &[u8],
     known: &Digests,

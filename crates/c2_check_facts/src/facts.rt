@@ -9,7 +9,7 @@ use crate::kept_digests::{AlgSet, Digests, digests_by};
 use c2_base::NoMemory;
 use c2_hash::{Hashing, alg_of};
 use c2_read_manifests::{
-    Kept, ReadManifests, boxes, children, ingredient, is_touched, manifests, reaches,
+    ReadManifest, ReadManifests, boxes, children, ingredient, is_touched, manifests, reaches,
 };
 use c2_rules::Parsed;
 use c2_spec::Ref;
@@ -53,7 +53,7 @@ impl Model for Facts {
 }
 
 /// The digests of a manifest's contents.
-fn contents_digests<H: Hashing>(hashing: &H, algs: AlgSet, own: &Kept<'_>) -> Digests
+fn contents_digests<H: Hashing>(hashing: &H, algs: AlgSet, own: &ReadManifest<'_>) -> Digests
     ensures { AreDigestsOf H.digest_of own.now.manifest.contents result }
 {
     digests_by(hashing, algs, own.contents)
@@ -61,7 +61,7 @@ fn contents_digests<H: Hashing>(hashing: &H, algs: AlgSet, own: &Kept<'_>) -> Di
 
 /// The digests of the contents of a signature box, where there is one.
 #[tactic(auto, using(crate::proofs::DigestLemmas::box_digests, crate::proofs::DigestLemmas::no_box))]
-fn signature_digests<H: Hashing>(hashing: &H, algs: AlgSet, own: &Kept<'_>) -> Digests
+fn signature_digests<H: Hashing>(hashing: &H, algs: AlgSet, own: &ReadManifest<'_>) -> Digests
     ensures { AreSignatureDigestsOf H.digest_of own.now result }
 {
     match &own.signature {
@@ -71,7 +71,12 @@ fn signature_digests<H: Hashing>(hashing: &H, algs: AlgSet, own: &Kept<'_>) -> D
 }
 
 /// What is found out of this manifest, which is touched or isn't.
-fn fact_from<H: Hashing>(hashing: &H, algs: AlgSet, own: &Kept<'_>, touched: bool) -> ChildFact
+fn fact_from<H: Hashing>(
+    hashing: &H,
+    algs: AlgSet,
+    own: &ReadManifest<'_>,
+    touched: bool,
+) -> ChildFact
     ensures { IsFactOf H.digest_of touched own.now result }
 {
     ChildFact {
@@ -145,7 +150,7 @@ fn marks_at(alloc: Global, count: usize, places: &[usize]) -> Result<Vec<bool>, 
 }
 
 /// Takes in the algorithm of this reference, where it is there and its algorithm is known.
-fn insert_named(algs: &mut AlgSet, own: &Kept<'_>, reference: &Option<Ref>) {
+fn insert_named(algs: &mut AlgSet, own: &ReadManifest<'_>, reference: &Option<Ref>) {
     if let Some(reference) = reference {
         if let Some(alg) = alg_of(alg_name(own, &reference.alg)) {
             algs.insert(alg);
@@ -154,7 +159,7 @@ fn insert_named(algs: &mut AlgSet, own: &Kept<'_>, reference: &Option<Ref>) {
 }
 
 /// Takes in the algorithms that the ingredients of a manifest name.
-fn insert_own(algs: &mut AlgSet, own: &Kept<'_>) {
+fn insert_own(algs: &mut AlgSet, own: &ReadManifest<'_>) {
     for b in boxes(own) {
         if let Parsed::Value(found) = ingredient(b) {
             insert_named(algs, own, &found.manifest);

@@ -4,12 +4,12 @@ ghost use Rattle.c2_rules.specs.Ingredients as form;
 ghost use Rattle.c2_rules.specs.Rules as rules;
 
 use c2_base::{NoMemory, Text};
-use c2_read_manifests::{Kept, label};
+use c2_read_manifests::{ReadManifest, label};
 use c2_rules::{Code, Failing};
 use std::alloc::Global;
 
 /// The first claim box's label.
-pub fn claim_label<'c>(own: &'c Kept<'_>) -> Option<&'c str>
+pub fn claim_label<'c>(own: &'c ReadManifest<'_>) -> Option<&'c str>
     ensures { option_map (λ x. x.now) result ≡ rules.claim_label own.now.manifest.claims }
 {
     match own.claims.as_slice() {
@@ -20,7 +20,11 @@ pub fn claim_label<'c>(own: &'c Kept<'_>) -> Option<&'c str>
 
 /// This fails at the manifest.
 #[tactic(auto, using(crate::proofs::Texts::nothing_after))]
-pub fn at_manifest(alloc: Global, own: &Kept<'_>, code: Code) -> Result<Option<Failing>, NoMemory>
+pub fn at_manifest(
+    alloc: Global,
+    own: &ReadManifest<'_>,
+    code: Code,
+) -> Result<Option<Failing>, NoMemory>
     ensures { IfOk result (λ found. found ≡ Some
         (record { code = code; uri = rules.manifest_uri own.now })) }
 {
@@ -33,7 +37,11 @@ pub fn at_manifest(alloc: Global, own: &Kept<'_>, code: Code) -> Result<Option<F
 }
 
 /// This fails at the signature.
-pub fn at_signature(alloc: Global, own: &Kept<'_>, code: Code) -> Result<Option<Failing>, NoMemory>
+pub fn at_signature(
+    alloc: Global,
+    own: &ReadManifest<'_>,
+    code: Code,
+) -> Result<Option<Failing>, NoMemory>
     ensures { IfOk result (λ found. found ≡ Some
         (record { code = code; uri = rules.signature_uri own.now })) }
 {
@@ -46,7 +54,11 @@ pub fn at_signature(alloc: Global, own: &Kept<'_>, code: Code) -> Result<Option<
 }
 
 /// This fails at the claim box.
-pub fn at_claim(alloc: Global, own: &Kept<'_>, code: Code) -> Result<Option<Failing>, NoMemory>
+pub fn at_claim(
+    alloc: Global,
+    own: &ReadManifest<'_>,
+    code: Code,
+) -> Result<Option<Failing>, NoMemory>
     ensures { IfOk result
         (λ found. found ≡ Some (record { code = code; uri = rules.claim_uri own.now })) }
 {
@@ -80,7 +92,7 @@ pub fn at_assertion(
 /// This fails at an assertion box: at the assertion store where the box has no label.
 pub fn at_box(
     alloc: Global,
-    own: &Kept<'_>,
+    own: &ReadManifest<'_>,
     name: Option<&str>,
     code: Code,
 ) -> Result<Option<Failing>, NoMemory>

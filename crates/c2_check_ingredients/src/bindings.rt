@@ -13,8 +13,8 @@ use c2_assertion::{Kind, Relationship, kind};
 use c2_base::NoMemory;
 use c2_check_facts::{at_assertion, at_box, at_claim, at_manifest, is_hash, label_kind};
 use c2_read_manifests::{
-    AssertionBox, Kept, Placed, box_label, boxes, entry_label, ingredient, is_active, is_update,
-    label,
+    AssertionBox, Placed, ReadManifest, box_label, boxes, entry_label, ingredient, is_active,
+    is_update, label,
 };
 use c2_rules::{Code, Failing, Parsed};
 use c2_spec::{Ingredient, Ref};
@@ -54,7 +54,7 @@ fn push_label<'c>(found: &mut Vec<&'c str>, name: Option<&'c str>) -> Result<(),
 /// Adds the labels that these entries of a manifest's claim list.
 fn push_labels<'c>(
     found: &mut Vec<&'c str>,
-    own: &Kept<'_>,
+    own: &ReadManifest<'_>,
     entries: &'c [Ref],
 ) -> Result<(), NoMemory>
     ensures { OnOk result
@@ -70,7 +70,7 @@ fn push_labels<'c>(
 
 /// The labels that a manifest's entries list, in order.
 #[tactic(auto, using(crate::proofs::LabelLemmas::kept_both))]
-fn labels<'c>(alloc: Global, own: &'c Kept<'_>) -> Result<Vec<&'c str>, NoMemory>
+fn labels<'c>(alloc: Global, own: &'c ReadManifest<'_>) -> Result<Vec<&'c str>, NoMemory>
     ensures { IfOk result (λ v. map (λ x. x.now) v.items ≡ rules.labels_in own.now) }
 {
     let mut found = Vec::new(alloc);
@@ -100,7 +100,7 @@ fn label_at<'c>(labels: &[&'c str], k: usize) -> &'c str
     labels[k]
 }
 
-/// Of these labels those of bindings of a kind that is known.
+/// The labels among these that name a binding of a kind that is known.
 fn bindings<'c>(alloc: Global, labels: &[&'c str]) -> Result<Vec<&'c str>, NoMemory>
     ensures { IfOk result
         (λ v. map (λ x. x.now) v.items ≡ filter
@@ -221,7 +221,7 @@ fn is_one_parent(boxes: &[AssertionBox<'_>]) -> bool
 }
 
 /// Whether an active manifest has a hash of another kind.
-fn is_refused(at: &Placed<'_, '_>, own: &Kept<'_>, name: &str) -> bool
+fn is_refused(at: &Placed<'_, '_>, own: &ReadManifest<'_>, name: &str) -> bool
     ensures { result ≡ (rules.hash_kind_test (seen_in at.now own.now) 0 name.now).fails }
 {
     is_active(at.all, at.place) && is_other_hash(label_kind(name))
@@ -231,7 +231,7 @@ fn is_refused(at: &Placed<'_, '_>, own: &Kept<'_>, name: &str) -> bool
 fn check_hash_kinds(
     alloc: Global,
     at: &Placed<'_, '_>,
-    own: &Kept<'_>,
+    own: &ReadManifest<'_>,
     labels: &[&str],
 ) -> Result<Option<Failing>, NoMemory>
     ensures { let tests =
@@ -251,7 +251,7 @@ fn check_hash_kinds(
 /// What fails by the number of these bindings and of parents.
 fn check_counts(
     alloc: Global,
-    own: &Kept<'_>,
+    own: &ReadManifest<'_>,
     active: bool,
     bindings: &[&str],
     other: bool,
@@ -283,7 +283,7 @@ fn check_counts(
 /// What fails of an update by its hashes and its ingredients.
 fn check_parents(
     alloc: Global,
-    own: &Kept<'_>,
+    own: &ReadManifest<'_>,
     hash: bool,
     one_parent: bool,
 ) -> Result<Option<Failing>, NoMemory>
@@ -303,7 +303,7 @@ fn check_parents(
 fn check_standard(
     alloc: Global,
     at: &Placed<'_, '_>,
-    own: &Kept<'_>,
+    own: &ReadManifest<'_>,
     labels: &[&str],
     bindings: &[&str],
 ) -> Result<Option<Failing>, NoMemory>
@@ -323,7 +323,7 @@ fn check_standard(
 fn check_numbers(
     alloc: Global,
     at: &Placed<'_, '_>,
-    own: &Kept<'_>,
+    own: &ReadManifest<'_>,
     labels: &[&str],
     bindings: &[&str],
 ) -> Result<Option<Failing>, NoMemory>
@@ -339,7 +339,11 @@ fn check_numbers(
 }
 
 /// What fails of an update, whose entries list these labels.
-fn check_update(alloc: Global, own: &Kept<'_>, labels: &[&str]) -> Result<Option<Failing>, NoMemory>
+fn check_update(
+    alloc: Global,
+    own: &ReadManifest<'_>,
+    labels: &[&str],
+) -> Result<Option<Failing>, NoMemory>
     ensures { let tests = update_tests own.now (map (λ x. x.now) labels.now) in
         IfOk result (λ found. found ≡ first_failing tests) }
 {
@@ -352,7 +356,7 @@ fn check_update(alloc: Global, own: &Kept<'_>, labels: &[&str]) -> Result<Option
 pub fn check_bindings(
     alloc: Global,
     at: &Placed<'_, '_>,
-    own: &Kept<'_>,
+    own: &ReadManifest<'_>,
 ) -> Result<Option<Failing>, NoMemory>
     ensures { let tests = rules.binding_tests (seen_in at.now own.now) in
         IfOk result (λ found. found ≡ first_failing tests) }

@@ -11,7 +11,7 @@ use c2_assertion::Kind;
 use c2_base::NoMemory;
 use c2_check_facts::{at_assertion, label_kind};
 use c2_read_manifests::{
-    AssertionBox, Kept, Placed, box_label, ingredient, label, named, place_of,
+    AssertionBox, Placed, ReadManifest, box_label, ingredient, label, named, place_of,
 };
 use c2_rules::{Code, Failing, Parsed};
 use c2_spec::Ingredient;
@@ -22,7 +22,7 @@ use std::alloc::Global;
 fn check_order(
     alloc: Global,
     at: &Placed<'_, '_>,
-    own: &Kept<'_>,
+    own: &ReadManifest<'_>,
     name: &str,
     target: &str,
 ) -> Result<Option<Failing>, NoMemory>
@@ -44,7 +44,7 @@ fn check_order(
 fn check_reference(
     alloc: Global,
     at: &Placed<'_, '_>,
-    own: &Kept<'_>,
+    own: &ReadManifest<'_>,
     name: &str,
     g: &Ingredient,
 ) -> Result<Option<Failing>, NoMemory>
@@ -66,7 +66,7 @@ fn check_reference(
 fn check_parsed(
     alloc: Global,
     at: &Placed<'_, '_>,
-    own: &Kept<'_>,
+    own: &ReadManifest<'_>,
     name: &str,
     reading: &Parsed<Ingredient>,
 ) -> Result<Option<Failing>, NoMemory>
@@ -86,7 +86,7 @@ fn check_parsed(
 fn check_kind(
     alloc: Global,
     at: &Placed<'_, '_>,
-    own: &Kept<'_>,
+    own: &ReadManifest<'_>,
     name: &str,
     reading: &Parsed<Ingredient>,
 ) -> Result<Option<Failing>, NoMemory>
@@ -111,7 +111,7 @@ fn check_kind(
 fn check_form(
     alloc: Global,
     at: &Placed<'_, '_>,
-    own: &Kept<'_>,
+    own: &ReadManifest<'_>,
     b: &AssertionBox<'_>,
 ) -> Result<Option<Failing>, NoMemory>
     ensures { let tests = rules.form_tests (seen_in at.now own.now) b.now in
@@ -128,7 +128,7 @@ fn check_form(
 pub fn check_forms(
     alloc: Global,
     at: &Placed<'_, '_>,
-    own: &Kept<'_>,
+    own: &ReadManifest<'_>,
     boxes: &[AssertionBox<'_>],
 ) -> Result<Option<Failing>, NoMemory>
     ensures { let tests =

@@ -10,7 +10,7 @@ use c2_base::NoMemory;
 use c2_check_facts::{ChildFact, KnownStore, at_box, fact_at, has_known_digest, is_known};
 use c2_hash::Hashing;
 use c2_read_manifests::{
-    AssertionBox, Kept, box_label, ingredient, manifests, named as label_named, place_of,
+    AssertionBox, ReadManifest, box_label, ingredient, manifests, named as label_named, place_of,
 };
 use c2_rules::{Code, Failing, Parsed};
 use c2_spec::{Ingredient, Ref};
@@ -27,12 +27,12 @@ struct Named<'g> {
 /// A child, and what was found out of it.
 #[derive(Clone, Copy)]
 struct Child<'c, 't> {
-    own: &'c Kept<'t>,
+    own: &'c ReadManifest<'t>,
     fact: &'c ChildFact,
 }
 
 /// Whether an algorithm of two references isn't known.
-fn has_unknown(own: &Kept<'_>, manifest: &Ref, sign: &Option<Ref>) -> bool
+fn has_unknown(own: &ReadManifest<'_>, manifest: &Ref, sign: &Option<Ref>) -> bool
     ensures { result ≡ rules.has_unknown own.now manifest.now sign.now }
 {
     if !is_known(own, &manifest.alg) {
@@ -48,7 +48,7 @@ fn has_unknown(own: &Kept<'_>, manifest: &Ref, sign: &Option<Ref>) -> bool
 #[tactic(auto, using(crate::proofs::ChildLemmas::signed_here))]
 fn is_wrong_signature<H: Hashing>(
     hashing: &H,
-    own: &Kept<'_>,
+    own: &ReadManifest<'_>,
     sign: &Option<Ref>,
     child: &Child<'_, '_>,
 ) -> bool
@@ -77,7 +77,7 @@ fn is_wrong_signature<H: Hashing>(
 fn check_child<H: Hashing>(
     alloc: Global,
     hashing: &H,
-    own: &Kept<'_>,
+    own: &ReadManifest<'_>,
     name: Option<&str>,
     named: &Named<'_>,
     child: &Child<'_, '_>,
@@ -121,7 +121,7 @@ fn check_named<H: Hashing>(
     alloc: Global,
     hashing: &H,
     store: &KnownStore<'_, '_>,
-    own: &Kept<'_>,
+    own: &ReadManifest<'_>,
     name: Option<&str>,
     named: &Named<'_>,
 ) -> Result<Option<Failing>, NoMemory>
@@ -152,7 +152,7 @@ fn check_reading<H: Hashing>(
     alloc: Global,
     hashing: &H,
     store: &KnownStore<'_, '_>,
-    own: &Kept<'_>,
+    own: &ReadManifest<'_>,
     name: Option<&str>,
     g: &Ingredient,
 ) -> Result<Option<Failing>, NoMemory>
@@ -181,7 +181,7 @@ fn check_ingredient<H: Hashing>(
     alloc: Global,
     hashing: &H,
     store: &KnownStore<'_, '_>,
-    own: &Kept<'_>,
+    own: &ReadManifest<'_>,
     b: &AssertionBox<'_>,
 ) -> Result<Option<Failing>, NoMemory>
     requires { AreFacts H.digest_of store.now.at.all.now store.now.facts.now }
@@ -200,7 +200,7 @@ pub fn check_ingredients<H: Hashing>(
     alloc: Global,
     hashing: &H,
     store: &KnownStore<'_, '_>,
-    own: &Kept<'_>,
+    own: &ReadManifest<'_>,
     boxes: &[AssertionBox<'_>],
 ) -> Result<Option<Failing>, NoMemory>
     requires { AreFacts H.digest_of store.now.at.all.now store.now.facts.now }

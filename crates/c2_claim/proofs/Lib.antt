@@ -1,4 +1,5 @@
-pub mod Telling
-pub mod Written
-mod PutIn
 pub mod Apart
+mod PutIn
+pub mod Telling
+pub mod TheLaws
+pub mod Written

@@ -21,7 +21,8 @@ not_other : (key name : List ℕ) (k : Item) → bytes_eq key name ≡ false →
 not_other key name k e f = ap (is_text name) (text_is key k f) ∙ e
 
 -- what is found under another key
-first_other : (key name : List ℕ) (v : Item) (ps : Pairs) → bytes_eq key name ≡ false → first_value name (with_value key v ps) ≡ first_value name ps
+first_other : (key name : List ℕ) (v : Item) (ps : Pairs) → bytes_eq key name ≡ false
+    → first_value name (with_value key v ps) ≡ first_value name ps
 first_other key name v no_pairs e = ap (λ b. cond b (Some v) None) e
 first_other key name v (pair k w ps) e =
     elim (is_text key k) as (λ b. is_text key k ≡ b → first_value name (cond b (pair k v ps) (pair k w (with_value key v ps))) ≡ first_value name (pair k w ps)) [
@@ -30,9 +31,11 @@ first_other key name v (pair k w ps) e =
     ] refl
 
 -- the field of texts that are held apart
-pub field_own : (key : List ℕ) (ts : List (List ℕ)) (ps : Pairs) → field_of key (with_texts key (dict ps) (Some ts)) ≡ Some (texts_list ts)
+pub field_own : (key : List ℕ) (ts : List (List ℕ)) (ps : Pairs)
+    → field_of key (with_texts key (dict ps) (Some ts)) ≡ Some (texts_list ts)
 field_own key ts ps = ap (option_and_then unless_null) (first_own key (texts_list ts) ps)
 
 -- another field
-pub field_other : (key name : List ℕ) (ts : List (List ℕ)) (ps : Pairs) → bytes_eq key name ≡ false → field_of name (with_texts key (dict ps) (Some ts)) ≡ field_of name (dict ps)
+pub field_other : (key name : List ℕ) (ts : List (List ℕ)) (ps : Pairs) → bytes_eq key name ≡ false
+    → field_of name (with_texts key (dict ps) (Some ts)) ≡ field_of name (dict ps)
 field_other key name ts ps e = ap (option_and_then unless_null) (first_other key name (texts_list ts) ps e)

@@ -29,10 +29,13 @@ pub answered_fault : (bytes : List ℕ) (fault e : CborError) (r : ClaimError) �
     → ((w : CborError) → HasFault bytes w → (fault ≡ faults.NoMemory) ⊎ (fault ≡ w))
     → ((w : CborError) → EndsEarly bytes w → (fault ≡ faults.NoMemory) ⊎ (fault ≡ w))
     → IsUnread bytes e → RefusesItem e (Err r)
-answered_fault bytes fault e r is by_fault by_end (faulty h) = subst (λ x. RefusesItem e (Err x)) (sym is) (answered fault e (by_fault e h))
-answered_fault bytes fault e r is by_fault by_end (early h) = subst (λ x. RefusesItem e (Err x)) (sym is) (answered fault e (by_end e h))
+answered_fault bytes fault e r is by_fault by_end (faulty h) =
+    subst (λ x. RefusesItem e (Err x)) (sym is) (answered fault e (by_fault e h))
+answered_fault bytes fault e r is by_fault by_end (early h) =
+    subst (λ x. RefusesItem e (Err x)) (sym is) (answered fault e (by_end e h))
 
 -- bytes that were read have no fault
-pub no_fault : {P : Type 0} (bytes : List ℕ) (e : CborError) → ((w : CborError) → HasFault bytes w → ⊥) → ((w : CborError) → EndsEarly bytes w → ⊥) → IsUnread bytes e → P
+pub no_fault : {P : Type 0} (bytes : List ℕ) (e : CborError) → ((w : CborError) → HasFault bytes w → ⊥)
+    → ((w : CborError) → EndsEarly bytes w → ⊥) → IsUnread bytes e → P
 no_fault bytes e by_fault by_end (faulty h) = absurd (by_fault e h)
 no_fault bytes e by_fault by_end (early h) = absurd (by_end e h)

@@ -51,13 +51,15 @@ none_plain : PlainPairs no_pairs
 none_plain = record { are = tt }
 
 -- a pair with another key before them
-one_plain : (key : List ℕ) (v : Item) (ps : Pairs) → HasPlainKeys v → is_apart (text key) ps ≡ true → PlainPairs ps → PlainPairs (pair (text key) v ps)
+one_plain : (key : List ℕ) (v : Item) (ps : Pairs) → HasPlainKeys v → is_apart (text key) ps ≡ true → PlainPairs ps
+    → PlainPairs (pair (text key) v ps)
 one_plain key v ps h new rest = record { are = (tt, h, apart (text key) ps new, rest.are) }
 
 -- a reference
 ref_plain_of : (u h : List ℕ) (a : Option (List ℕ)) → HasPlainKeys (ref_item (record { url = u; hash = h; alg = a }))
 unfolding shortest_head
-ref_plain_of u h None = (one_plain (codes "url") (text u) (pair (text (codes "hash")) (bytes h) no_pairs) tt refl (one_plain (codes "hash") (bytes h) no_pairs tt refl none_plain)).are
+ref_plain_of u h None =
+    (one_plain (codes "url") (text u) (pair (text (codes "hash")) (bytes h) no_pairs) tt refl (one_plain (codes "hash") (bytes h) no_pairs tt refl none_plain)).are
 ref_plain_of u h (Some a) = (one_plain (codes "alg") (text a)
     (pair (text (codes "url")) (text u) (pair (text (codes "hash")) (bytes h) no_pairs)) tt refl
     (one_plain (codes "url") (text u) (pair (text (codes "hash")) (bytes h) no_pairs) tt refl
@@ -75,15 +77,23 @@ texts_plain (t ∷ ts) = (tt, texts_plain ts)
 
 -- the parts, one by one
 parts_of : List ℕ → List ℕ → List ℕ → Option (List ℕ) → List ℕ → List Ref → List (List ℕ) → ClaimParts
-parts_of label instance generator title alg entries redacted = record { label = label; instance = instance; generator = generator; title = title; alg = alg; entries = entries; redacted = redacted }
+parts_of label instance generator title alg entries redacted =
+    record
+    { label = label; instance = instance; generator = generator; title = title; alg = alg; entries = entries; redacted = redacted }
 
 -- the last field
-last_plain : (generator : List ℕ) → PlainPairs (pair (text (codes "claim_generator_info")) (generator_item generator) no_pairs)
+last_plain : (generator : List ℕ)
+    → PlainPairs (pair (text (codes "claim_generator_info")) (generator_item generator) no_pairs)
 unfolding shortest_head
-last_plain generator = one_plain (codes "claim_generator_info") (generator_item generator) no_pairs ((one_plain (codes "name") (text generator) no_pairs tt refl none_plain).are) refl none_plain
+last_plain generator =
+    one_plain (codes "claim_generator_info") (generator_item generator) no_pairs
+    ((one_plain (codes "name") (text generator) no_pairs tt refl none_plain).are) refl none_plain
 
 -- the fields of a claim
-fields_plain : (label instance generator : List ℕ) (title : Option (List ℕ)) (alg : List ℕ) (entries : List Ref) (redacted : List (List ℕ)) → PlainPairs (pairs_of (claim_fields (parts_of label instance generator title alg entries redacted)))
+fields_plain :
+    (label instance generator : List ℕ) (title : Option (List ℕ)) (alg : List ℕ) (entries : List Ref)
+    (redacted : List (List ℕ))
+    → PlainPairs (pairs_of (claim_fields (parts_of label instance generator title alg entries redacted)))
 unfolding parts_of shortest_head
 fields_plain label instance generator None alg entries [] =
     one_plain (codes "alg") (text alg) _ tt refl
@@ -117,7 +127,8 @@ fields_plain label instance generator (Some title) alg entries (t ∷ ts) =
 -- ---- read back
 
 -- a reference
-ref_back_of : (u h : List ℕ) (a : Option (List ℕ)) → ref_of (sorted (ref_item (record { url = u; hash = h; alg = a }))) ≡ Some (record { url = u; hash = h; alg = a })
+ref_back_of : (u h : List ℕ) (a : Option (List ℕ))
+    → ref_of (sorted (ref_item (record { url = u; hash = h; alg = a }))) ≡ Some (record { url = u; hash = h; alg = a })
 unfolding shortest_head
 ref_back_of u h None = refl
 ref_back_of u h (Some a) = refl
@@ -125,7 +136,9 @@ ref_back_of u h (Some a) = refl
 -- references
 refs_back : (rs : List Ref) → each_of ref_of (sorted_items (items_of (map ref_item rs))) ≡ Some rs
 refs_back [] = refl
-refs_back (r ∷ rs) = ap (λ o. joined o (each_of ref_of (sorted_items (items_of (map ref_item rs))))) (ref_back_of r.url r.hash r.alg) ∙ ap (λ o. joined (Some r) o) (refs_back rs)
+refs_back (r ∷ rs) =
+    ap (λ o. joined o (each_of ref_of (sorted_items (items_of (map ref_item rs))))) (ref_back_of r.url r.hash r.alg)
+    ∙ ap (λ o. joined (Some r) o) (refs_back rs)
 
 -- texts
 texts_back : (ts : List (List ℕ)) → each_of text_item (sorted_items (items_of (map text ts))) ≡ Some ts
@@ -135,7 +148,8 @@ texts_back (t ∷ ts) = ap (λ o. joined (Some t) o) (texts_back ts)
 -- what a claim says of which these entries and these redactions are read
 said_by : List ℕ → List ℕ → List ℕ → Option (List Ref) → Option (List (List ℕ)) → Result Claim ClaimField
 said_by signature instance alg created redacted =
-    require Created created (λ created. require Redacted redacted (λ redacted. Ok (record { version = V2; signature = signature; instance = Some instance; alg = Some alg; created = created; gathered = []; redacted = redacted })))
+    require Created created
+    (λ created. require Redacted redacted (λ redacted. Ok (record { version = V2; signature = signature; instance = Some instance; alg = Some alg; created = created; gathered = []; redacted = redacted })))
 
 -- a claim of these parts
 claim_said : (label instance generator : List ℕ) (title : Option (List ℕ)) (alg : List ℕ) (entries : List Ref) (redacted : List (List ℕ))
@@ -151,13 +165,16 @@ pub claim_back : (p : ClaimParts) → claim_of V2 (sorted (claim_item p)) ≡ Ok
 unfolding said_by parts_of
 claim_back p =
     claim_said p.label p.instance p.generator p.title p.alg p.entries p.redacted
-    ∙ ap (λ o. said_by (signature_uri p.label) p.instance p.alg o (each_of text_item (sorted_items (items_of (map text p.redacted))))) (refs_back p.entries)
+    ∙ ap
+    (λ o. said_by (signature_uri p.label) p.instance p.alg o (each_of text_item (sorted_items (items_of (map text p.redacted)))))
+    (refs_back p.entries)
     ∙ ap (λ o. said_by (signature_uri p.label) p.instance p.alg (Some p.entries) o) (texts_back p.redacted)
 
 -- ---- the bytes
 
 -- what is written of a legal claim
-pub written_back : (p : ClaimParts) (v : Item) (b : List ℕ) → v ≡ claim_item p → IsLegal v → (IsPlain v → (r : List ℕ) → BeginsWith (b ++ r) (sorted v) (length b)) → IsClaim V2 b (claim_from p)
+pub written_back : (p : ClaimParts) (v : Item) (b : List ℕ) → v ≡ claim_item p → IsLegal v
+    → (IsPlain v → (r : List ℕ) → BeginsWith (b ++ r) (sorted v) (length b)) → IsClaim V2 b (claim_from p)
 unfolding parts_of
 written_back p v b is legal read =
     let fields = fields_plain p.label p.instance p.generator p.title p.alg p.entries p.redacted in
@@ -181,7 +198,8 @@ in_turn (t ∷ ts) redacted s i c g = ap (λ (fs : List (Item × Item)). t ∷ f
 -- the fields with these values
 abbrev fields_with : ClaimParts → Item → Item → Item → Item → Item → List (Item × Item)
 fields_with p alg s i c g =
-    field (codes "alg") alg ∷ field_if (codes "dc:title") text p.title ++ field (codes "signature") s ∷ field (codes "instanceID") i
+    field (codes "alg") alg ∷ field_if (codes "dc:title") text p.title ++ field (codes "signature") s ∷ field
+    (codes "instanceID") i
     ∷ field (codes "created_assertions") c ∷ redactions_field p.redacted ++ field (codes "claim_generator_info") g ∷ []
 
 -- the fields, each added to those before it
@@ -194,7 +212,8 @@ pub claim_is : (p : ClaimParts) (m0 m1 m2 m3 m4 m5 m6 m7 : List (Item × Item)) 
     → m5 ≡ m4 ++ field (codes "created_assertions") c ∷ []
     → m6 ≡ m5 ++ redactions_field p.redacted
     → m7 ≡ m6 ++ field (codes "claim_generator_info") g ∷ []
-    → alg ≡ text p.alg → s ≡ text (signature_uri p.label) → i ≡ text p.instance → c ≡ list (items_of (map ref_item p.entries)) → g ≡ generator_item p.generator
+    → alg ≡ text p.alg → s ≡ text (signature_uri p.label) → i ≡ text p.instance
+    → c ≡ list (items_of (map ref_item p.entries)) → g ≡ generator_item p.generator
     → dict (pairs_of m7) ≡ claim_item p
 claim_is p m0 m1 m2 m3 m4 m5 m6 m7 alg s i c g e0 e1 e2 e3 e4 e5 e6 e7 is_alg is_s is_i is_c is_g =
     let title = field_if (codes "dc:title") text p.title in

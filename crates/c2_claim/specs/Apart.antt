@@ -21,14 +21,14 @@ v1_claim_apart v redacted =
     redacted (optional_text (field_of (codes "alg") v)) (is_some (field_of (codes "created_assertions") v))
     (text_of (field_of (codes "instanceID") v))
 
--- that of version 2
+-- the claim of version 2 that an item is with these redactions
 abbrev pub v2_claim_apart : Item → Option (List (List ℕ)) → Result Claim ClaimField
 v2_claim_apart v redacted =
     v2_claim_by (is_map v) (text_of (field_of (codes "instanceID") v)) (text_of (field_of (codes "signature") v))
     (list_of ref_of (field_of (codes "created_assertions") v)) (optional_list ref_of (field_of (codes "gathered_assertions") v))
     redacted (optional_text (field_of (codes "alg") v)) (is_some (field_of (codes "assertions") v))
 
--- that of this version
+-- the claim of this version that an item is with these redactions
 abbrev pub claim_apart : ClaimVersion → Item → Option (List (List ℕ)) → Result Claim ClaimField
 claim_apart V1 v redacted = v1_claim_apart v redacted
 claim_apart V2 v redacted = v2_claim_apart v redacted

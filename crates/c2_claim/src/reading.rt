@@ -5,7 +5,7 @@ ghost use Rattle.c2_claim.specs.Apart.{claim_apart, redactions_of};
 ghost use Rattle.c2_spec.specs.Cbor.Item.{Item};
 ghost use Rattle.c2_spec.specs.Cbor.View.{view};
 ghost use Rattle.c2_spec.specs.Cbor.Fields.{HasItem, IsUnread};
-ghost use Rattle.c2_spec.specs.C2pa.Claim.{claim_of, IsRead, Agrees, RefusesItem};
+ghost use Rattle.c2_spec.specs.C2pa.Claim.{claim_of, IsClaimRead, Agrees, RefusesItem};
 ghost use Rattle.c2_spec.specs.declared.cbor.CborError.{CborError as AnyError};
 ghost use Rattle.c2_claim.specs.Unread.{claim_error};
 
@@ -32,7 +32,7 @@ fn claim_of_parts(
     }
 }
 
-/// The same of the whole item.
+/// The claim of this version that an item is, with redactions that are held apart or stand in it, or the first field that is refused.
 #[tactic(auto, using(crate::proofs::Apart::agrees_whole))]
 fn claim_in(
     alloc: Global,
@@ -70,13 +70,13 @@ fn unread(fault: CborError) -> ClaimError
 /// A null field counts as absent, and other fields pass unread. A claim of one version must not have the list of assertions of the
 /// other, so bytes are a claim under one version alone.
 pub fn read(alloc: Global, version: ClaimVersion, bytes: &[u8]) -> Result<Claim, ClaimError>
-    // What is answered holds of these bytes.
-    ensures holds { IsRead version bytes.now result }
+    // What is answered holds of the bytes.
+    ensures holds { IsClaimRead version bytes.now result }
 
-    // Of an item that they are, the claim or the first refused field is answered, unless memory runs out.
+    // Where the bytes are an item, the claim that it is or its first refused field is answered, unless memory runs out.
     ensures only { (v : Item) → HasItem bytes.now v → Agrees (claim_of version v) result }
 
-    // A fault of theirs is answered, unless memory runs out.
+    // A fault of the bytes is answered, unless memory runs out.
     ensures refused { (e : AnyError) → IsUnread bytes.now e → RefusesItem e result }
 {
     let (item, texts) = match decode_texts_apart(alloc, bytes, "redacted_assertions") {

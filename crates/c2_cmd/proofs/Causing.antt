@@ -68,7 +68,7 @@ source_end source sink judge (Err Output) h e = absurd (cc (e))
 source_end source sink judge (Err Judge) h e = absurd (cc (e))
 source_end source sink judge (Err Memory) h e = absurd (cc (e))
 
--- so has one of a sink
+-- a failure of a sink has its cause
 pub sink_end : (source sink judge : Type 0) (r : Result Reply Fault) → IfErr r (CausedBy source sink judge)
     → end_of r ≡ OutputFault → sink
 sink_end source sink judge (Ok reply) h e = absurd (no_output reply.answer e)
@@ -86,7 +86,7 @@ unjudged_end source sink claim (Err Output) h e = absurd (cc (e))
 unjudged_end source sink claim (Err Judge) h e = absurd h
 unjudged_end source sink claim (Err Memory) h e = absurd (cc (e))
 
--- and where one does, a count of faults rose
+-- where a judge failed, a judge's count of faults rose
 pub judged_end : (before now : List ℕ) (r : Result Reply Fault)
     → IfErr r (λ e. IsJudgeCause before now (fault_heard e)) → end_of r ≡ JudgeFault → SomeRose before now
 judged_end before now (Ok reply) h e = absurd (no_end reply.answer (subst HasNoReply (sym e) tt))

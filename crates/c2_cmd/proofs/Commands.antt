@@ -25,10 +25,11 @@ use Rattle.c2_cmd_outcome.specs.Reply.{Begins, CausedBy, HasWhole, MakesFile, Re
 use Rattle.c2_cmd_outcome.specs.declared.reply.Fault.{Fault}
 use Rattle.c2_cmd_outcome.specs.declared.reply.Fault.TheVariants.{Input, Output, Judge, Memory}
 use Rattle.c2_cmd_outcome.specs.declared.reply.Reply.{Reply}
-use Rattle.c2_cmd_outcome.proofs.Replying.{no_reply, nothing_written, one_reply, then_nothing}
+use Rattle.c2_cmd_outcome.proofs.Replying.{no_reply, nothing_written, one_reply}
 use Rattle.c2_cmd.specs.Outcome.{Asks, CommandAsks, CommandMeets, IsCommandOutcome, IsOutcome, Meets, has_whole_report, names}
 use Rattle.c2_cmd.specs.Run.{Call, HasNotDue, IsKnown, IsKnownAs, IsNotDue, IsOfCommand, RepliesTo, RunState, handed}
 use Rattle.c2_cmd.specs.Sources.{SourceName, is_source, of_source, the_media}
+use Rattle.c2_base.proofs.Written.{then_nothing}
 
 -- ---- the words
 
@@ -37,12 +38,12 @@ pub named_by : (is : Role → Bool) (words : Option Roles) (found : Roles) (c : 
     → found.command ≡ c → has_word is c ≡ true → names is words ≡ true
 named_by is words found c gives named has = ap (names is) gives ∙ ap (has_word is) named ∙ has
 
--- and words whose command has none don't
+-- words whose command has no word of such a role don't have it
 pub unnamed_by : (is : Role → Bool) (words : Option Roles) (found : Roles) (c : Command) → words ≡ Some found
     → found.command ≡ c → has_word is c ≡ false → names is words ≡ false
 unnamed_by is words found c gives named none = ap (names is) gives ∙ ap (has_word is) named ∙ none
 
--- nor is the whole report there before any of it is written, by words whose command begins it early
+-- the whole report isn't there before any of it is written, by words whose command begins it early
 pub early_by : (words : Option Roles) (found : Roles) (c : Command) → words ≡ Some found → found.command ≡ c
     → reports_whole c ≡ false → has_whole_report words ≡ false
 early_by words found c gives named early = ap has_whole_report gives ∙ ap reports_whole named ∙ early
@@ -107,7 +108,7 @@ media_told {call} found c gives named has known =
     some_of (inl some) = some
     some_of (inr never) = absurd (of_command (λ k. ⊥) call.roles found c gives named never)
 
--- and the bytes of another source are, where it is due
+-- the bytes of another source than the media are known, where words name it and it is due
 pub source_told : {call : Call} (s : SourceName) (found : Roles) (c : Command) {IsLeft : Type 0}
     → call.roles ≡ Some found → found.command ≡ c → has_word (is_source s) c ≡ true → IsKnown call
     → (HasNotDue call s c → IsLeft) → IsKnownWhereDue (of_source call.known s) IsLeft
@@ -132,28 +133,32 @@ pub message_due : (P Q : List ℕ → Type 0) (known other : Option (List ℕ)) 
 message_due P Q known other (inl k) = inl (held P known k)
 message_due P Q known other (inr k) = inr (held Q other k)
 
--- and is left as it was then
+-- a message is left as it was where it isn't due by what is known of its media or of its definition
 pub message_left : (P Q : List ℕ → Type 0) (known other : Option (List ℕ)) (Same : Type 0)
     → ForSome known (λ a. P a → Same) → ForSome other (λ b. Q b → Same) → IsKnownAs P known ⊎ IsKnownAs Q other → Same
 message_left P Q known other Same first second (inl k) = left_where_known P known Same first k
 message_left P Q known other Same first second (inr k) = left_where_known Q other Same second k
 
 -- a message is refused by what is known of it and of its definition
-told_refused : (known other : Option (List ℕ)) → IsToldRefused known other → IsMessageRefused (unwrap_or known []) (unwrap_or other [])
+told_refused : (known other : Option (List ℕ)) → IsToldRefused known other
+    → IsMessageRefused (unwrap_or known []) (unwrap_or other [])
 told_refused known other (b, is, (m, spoken, refuses)) =
     subst (λ (x : Option (List ℕ)). IsMessageRefused (unwrap_or x []) (unwrap_or other [])) (sym is)
     (subst (λ (x : Option (List ℕ)). IsMessageRefused b (unwrap_or x [])) (sym spoken) refuses)
 
--- so another media file isn't due by what is known of the media, of the definition or of the message
-pub other_due : (P Q : List ℕ → Type 0) (media known other : Option (List ℕ)) → IsKnownAs P media ⊎ (IsKnownAs Q known ⊎ IsToldRefused known other)
+-- another media file isn't due by what is known of the media, of the definition or of the message
+pub other_due : (P Q : List ℕ → Type 0) (media known other : Option (List ℕ))
+    → IsKnownAs P media ⊎ (IsKnownAs Q known ⊎ IsToldRefused known other)
     → P (unwrap_or media []) ⊎ (Q (unwrap_or known []) ⊎ IsMessageRefused (unwrap_or known []) (unwrap_or other []))
 other_due P Q media known other (inl k) = inl (held P media k)
 other_due P Q media known other (inr (inl k)) = inr (inl (held Q known k))
 other_due P Q media known other (inr (inr k)) = inr (inr (told_refused known other k))
 
--- and is left as it was then
-pub other_left : (P Q : List ℕ → Type 0) (media known other : Option (List ℕ)) (Same : Type 0) → ForSome media (λ a. P a → Same)
-    → ForSome known (λ b. Q b → Same) → (IsToldRefused known other → Same) → IsKnownAs P media ⊎ (IsKnownAs Q known ⊎ IsToldRefused known other)
+-- another media file is left as it was where it isn't due by what is known of the media, of the definition or of the message
+pub other_left : (P Q : List ℕ → Type 0) (media known other : Option (List ℕ)) (Same : Type 0)
+    → ForSome media (λ a. P a → Same)
+    → ForSome known (λ b. Q b → Same) → (IsToldRefused known other → Same)
+    → IsKnownAs P media ⊎ (IsKnownAs Q known ⊎ IsToldRefused known other)
     → Same
 other_left P Q media known other Same first second third (inl k) = left_where_known P media Same first k
 other_left P Q media known other Same first second third (inr (inl k)) = left_where_known Q known Same second k
@@ -208,7 +213,7 @@ replies_unheard P source sink {w} {k} {js} {r} one unfiled met same cause h = re
   unasked = λ none. same;
 }
 
--- such a command over the media alone
+-- a command over the media alone that writes no file and asks nobody
 pub replies_silent : (P : List ℕ → Outcome → Type 0) (known : Option (List ℕ)) (source sink : Type 0) {IsMet : Type 0}
     {w k : SinkState} {js : Judges} {Same : Type 0} {r : Result Reply Fault} → IsSome known
     → ((file : List ℕ) → IsOneOutcome (P file))

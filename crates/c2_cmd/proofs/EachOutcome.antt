@@ -3,7 +3,7 @@ use Rattle.std.proofs.Common.{◌≡◌, true, refl, ℕ, ◌<◌, ◌^◌, List
 use Rattle.std.specs.Prelude.{All}
 use Rattle.c2_base.specs.declared.values.Question.{Question}
 use Rattle.c2_cmd_building.specs.Laws.{EachBuildingOutcome, EachBuildingQuestions}
-use Rattle.c2_new_store_spec.specs.Fresh.{GivesDigests}
+use Rattle.c2_new_file_spec.specs.Fresh.{GivesDigests}
 use Rattle.c2_cmd_collect.specs.Laws.{EachCollectOutcome, EachCollectQuestions}
 use Rattle.c2_cmd_extract.specs.Outcomes.{IsExtractOutcome}
 use Rattle.c2_cmd_front.specs.Outcomes.{IsEmbedFrontOutcome, IsPlanFrontOutcome}
@@ -43,7 +43,8 @@ each_command laws command.Questions roles i held gives = laws.reads.questions i.
 each_command laws command.Validate roles i held gives = laws.reads.validate i.hash i.said i.files.media (held the_media)
 each_command laws command.Compare roles i held gives =
     laws.reads.compare i.hash i.said i.files.media i.files.second (held the_media) (held the_second)
-each_command laws command.Plan roles i held gives = laws.builds.plan i.hash i.said i.files.media i.files.second (held the_media)
+each_command laws command.Plan roles i held gives =
+    laws.builds.plan i.hash i.said i.files.media i.files.second (held the_media)
 each_command laws command.Embed roles i held gives =
     laws.builds.embed i.hash i.said i.files.media i.files.second i.files.third (held the_media) (held the_third)
 each_command laws command.Sample roles i held gives =
@@ -70,16 +71,19 @@ each_outcome laws (Some roles) i held gives =
     each_command laws roles.command roles i held gives
 
 -- every command has a list of questions for its judges where its files are bytes
-each_asks : EachReadingQuestions → EachBuildingQuestions → EachCollectQuestions → (c : Command) (roles : Roles) (i : Inputs)
+each_asks : EachReadingQuestions → EachBuildingQuestions → EachCollectQuestions
+    → (c : Command) (roles : Roles) (i : Inputs)
     → AreBytes i → (makes_media c ≡ true → GivesDigests i.hash) → (qs : List Question) × CommandAsks c roles i qs
 each_asks reads builds collects command.Digest roles i held gives = ([], refl)
 each_asks reads builds collects command.List roles i held gives = ([], refl)
 each_asks reads builds collects command.Show roles i held gives = ([], refl)
 each_asks reads builds collects command.Questions roles i held gives = reads.questions i.files.media (held the_media)
-each_asks reads builds collects command.Validate roles i held gives = reads.validate i.hash i.said i.files.media (held the_media)
+each_asks reads builds collects command.Validate roles i held gives =
+    reads.validate i.hash i.said i.files.media (held the_media)
 each_asks reads builds collects command.Compare roles i held gives =
     reads.compare i.hash i.said i.files.media i.files.second (held the_media) (held the_second)
-each_asks reads builds collects command.Plan roles i held gives = builds.plan i.hash i.said i.files.media i.files.second (held the_media)
+each_asks reads builds collects command.Plan roles i held gives =
+    builds.plan i.hash i.said i.files.media i.files.second (held the_media)
 each_asks reads builds collects command.Embed roles i held gives =
     builds.embed i.hash i.said i.files.media i.files.second i.files.third (held the_media) (held the_third)
 each_asks reads builds collects command.Sample roles i held gives =
@@ -97,7 +101,8 @@ each_asks reads builds collects command.EmbedCollect roles i held gives =
     (held the_third) (held the_fourth)
 
 -- a call whose files are bytes has a list of questions: an empty one where its words fit no command
-pub each_list : EachReadingQuestions → EachBuildingQuestions → EachCollectQuestions → (roles : Option Roles) (i : Inputs)
+pub each_list : EachReadingQuestions → EachBuildingQuestions → EachCollectQuestions
+    → (roles : Option Roles) (i : Inputs)
     → AreBytes i → HasDigests roles i → (qs : List Question) × Asks roles i qs
 each_list reads builds collects None i held gives = ([], refl)
 each_list reads builds collects (Some roles) i held gives =

@@ -9,19 +9,19 @@ use Rattle.c2_cmd_outcome.specs.Outcome.{Outcome}
 use Rattle.c2_cmd_outcome.specs.Reply.{TakesFile, end_of}
 use Rattle.c2_cmd_outcome.specs.Left.{Delivers, SinkState}
 use Rattle.c2_cmd_outcome.specs.Status.{WithFault, status_of}
-use Rattle.c2_cmd_outcome.specs.declared.reply.Fault.TheVariants.{Input, Output, Judge, Memory}
+use Rattle.c2_cmd_outcome.specs.declared.reply.Fault.{Fault}
 use Rattle.c2_cmd_outcome.specs.declared.reply.Reply.{Reply}
 use Rattle.c2_cmd_outcome.specs.declared.types.Answer.{Answer}
 use Rattle.c2_cmd_outcome.specs.declared.types.Answer.TheVariants as answer
 use Rattle.c2_cmd_outcome.specs.declared.types.Status.{Status}
-use Rattle.c2_cmd_outcome.specs.declared.types.Status.TheVariants.{InputFault, OutputFault, JudgeFault, NoMemory}
+use Rattle.c2_cmd_outcome.specs.declared.types.Status.TheVariants.{InputFault, OutputFault, JudgeFault}
 use Rattle.c2_cmd.specs.Left.{KeepsOut, LeavesOut}
-use Rattle.c2_new_store_spec.specs.Fresh.{GivesDigests}
+use Rattle.c2_new_file_spec.specs.Fresh.{GivesDigests}
 use Rattle.c2_cmd.specs.Outcome.{has_whole_report}
 use Rattle.c2_cmd.specs.Run.{Call, ComesTo, Faults, HasAll, HasAnswered, IsCaused, RepliesTo, RunState, RunsTo, SinkFailed}
-use Rattle.c2_cmd.proofs.Delivering.{EachOutcome, asked_whole, comes_to, file_before, file_delivered, file_input, file_judge, file_memory, file_output, first_filed, first_unwritten, no_fault, whole_answered, whole_failed, whole_where_filed, wrote_all, wrote_prefix}
+use Rattle.c2_cmd.proofs.Delivering.{EachOutcome, asked_failed, asked_whole, comes_to, file_before, file_delivered, file_failed, first_filed, first_unwritten, no_fault, report_failed, undone, whole_answered, whole_failed, whole_where_filed, wrote_all, wrote_prefix}
 use Rattle.c2_cmd.proofs.Causing.{no_output}
-use Rattle.c2_cmd.proofs.Keeping.{without}
+use Rattle.c2_cmd.proofs.Keeping.{unanswered, without}
 use Rattle.c2_cmd_outcome.proofs.Replying.{written_behind}
 
 -- ---- statuses of answers
@@ -73,6 +73,10 @@ cause_told reply is h = record {
   judge_fault = λ e. no_fault _ reply.answer _ JudgeFault is tt e;
 }
 
+-- where there is none
+pub cause_failed : {roles : Option Roles} {f : Faults} {s t : Status} → s ≡ t → IsCaused roles f t → IsCaused roles f s
+cause_failed {roles} {f} is h = subst (λ (x : Status). IsCaused roles f x) (sym is) h
+
 -- where the report failed
 pub cause_untold : {roles : Option Roles} {f : Faults} → SinkFailed roles f → IsCaused roles f OutputFault
 cause_untold failed = record {
@@ -84,7 +88,7 @@ cause_untold failed = record {
 
 -- ---- a run whose sources are known
 
--- it comes to an outcome, and ends as it says
+-- a run whose sources are known has an outcome, and ends as that says
 pub ends_known : {call : Call} {old new : RunState} {Same : Type 0} {s : Status} → EachOutcome
     → ForSome call.known.media (All (λ b. b < 2 ^ 8)) → ForSome call.known.second (All (λ b. b < 2 ^ 8))
     → ForSome call.known.third (All (λ b. b < 2 ^ 8)) → ForSome call.known.fourth (All (λ b. b < 2 ^ 8))
@@ -100,69 +104,24 @@ has_all : (file : Option (List ℕ)) (reply : Reply) (old new : SinkState) → T
 has_all None reply old new h = h
 has_all (Some file) reply old new h = h
 
--- after a failure of a source
-pub runs_input : {call : Call} {old new : RunState} {Same : Type 0}
-    (whole : has_whole_report call.roles ≡ true → new.report ≡ old.report) (expected : Outcome) → ComesTo call expected
-    → RepliesTo call old new Same (Err Input) → new.report.finished ≡ old.report.finished
-    → RunsTo call expected old new Same InputFault
-runs_input {call} {old} {new} whole expected comes h unfinished = record {
-  report = record { prefix = h.reply expected comes; same = unfinished };
-  file = file_input expected.file old.file new.file (h.file expected comes);
-  order = first_unwritten expected.file old.report new.report old.file new.file
-      (λ some. whole (whole_where_filed _ _ expected comes some));
-  met = λ all. h.met (whole_failed InputFault old.file new.file (λ e. cc (e)) all);
-  asked = h.asked;
-  unasked = h.unasked;
-  complete = tt;
-}
-
--- after one of a sink before the reply
-pub runs_output : {call : Call} {old new : RunState} {Same : Type 0}
-    (whole : has_whole_report call.roles ≡ true → new.report ≡ old.report) (expected : Outcome) → ComesTo call expected
-    → RepliesTo call old new Same (Err Output) → new.report.finished ≡ old.report.finished
-    → RunsTo call expected old new Same OutputFault
-runs_output {call} {old} {new} whole expected comes h unfinished = record {
-  report = record { prefix = h.reply expected comes; same = unfinished };
-  file = file_output expected.file old.file new.file (h.file expected comes);
-  order = first_unwritten expected.file old.report new.report old.file new.file
-      (λ some. whole (whole_where_filed _ _ expected comes some));
-  met = λ all. h.met (whole_failed OutputFault old.file new.file (λ e. cc (e)) all);
-  asked = h.asked;
-  unasked = h.unasked;
-  complete = tt;
-}
-
--- after one of a judge
-pub runs_judge : {call : Call} {old new : RunState} {Same : Type 0}
-    (whole : has_whole_report call.roles ≡ true → new.report ≡ old.report) (expected : Outcome) → ComesTo call expected
-    → RepliesTo call old new Same (Err Judge) → new.report.finished ≡ old.report.finished
-    → RunsTo call expected old new Same JudgeFault
-runs_judge {call} {old} {new} whole expected comes h unfinished = record {
-  report = record { prefix = h.reply expected comes; same = unfinished };
-  file = file_judge expected.file old.file new.file (h.file expected comes);
-  order = first_unwritten expected.file old.report new.report old.file new.file
-      (λ some. whole (whole_where_filed _ _ expected comes some));
-  met = λ all. h.met (whole_failed JudgeFault old.file new.file (λ e. cc (e)) all);
-  asked = h.asked;
-  unasked = h.unasked;
-  complete = tt;
-}
-
--- out of memory
-pub runs_memory : {call : Call} {old new : RunState} {Same : Type 0}
-    (whole : has_whole_report call.roles ≡ true → new.report ≡ old.report) (expected : Outcome) → ComesTo call expected
-    → RepliesTo call old new Same (Err Memory) → new.report.finished ≡ old.report.finished
-    → RunsTo call expected old new Same NoMemory
-runs_memory {call} {old} {new} whole expected comes h unfinished = record {
-  report = record { prefix = h.reply expected comes; same = unfinished };
-  file = file_memory expected.file old.file new.file (h.file expected comes);
-  order = first_unwritten expected.file old.report new.report old.file new.file
-      (λ some. whole (whole_where_filed _ _ expected comes some));
-  met = λ all. h.met (whole_failed NoMemory old.file new.file (λ e. cc (e)) all);
-  asked = h.asked;
-  unasked = h.unasked;
-  complete = tt;
-}
+-- without a reply
+pub runs_failed : {call : Call} {old new : RunState} {Same : Type 0} (f : Fault) {s : Status} → s ≡ end_of (Err f)
+    → (has_whole_report call.roles ≡ true → new.report ≡ old.report) → RepliesTo call old new Same (Err f)
+    → new.report.finished ≡ old.report.finished → (expected : Outcome) → ComesTo call expected
+    → RunsTo call expected old new Same s
+runs_failed {call} {old} {new} {Same} f is whole h unfinished expected comes =
+    subst (λ (x : Status). RunsTo call expected old new Same x) (sym is)
+    (record {
+      report = report_failed f expected old.report new.report
+          (record { prefix = h.reply expected comes; same = unfinished });
+      file = file_failed f expected.file old.file new.file (h.file expected comes);
+      order = first_unwritten expected.file old.report new.report old.file new.file
+          (λ some. whole (whole_where_filed _ _ expected comes some));
+      met = λ all. h.met (whole_failed (end_of (Err f)) old.file new.file (undone f) all);
+      asked = λ qs asks. asked_failed f qs old.judges new.judges (h.asked qs asks);
+      unasked = h.unasked;
+      complete = unanswered (HasAnswered expected old new (end_of (Err f))) f;
+    })
 
 -- what is left once the report is written, behind a reply
 abbrev pub told : RunState → SinkState → RunState

@@ -2,7 +2,6 @@
 use Rattle.std.proofs.Common.{◌≡◌, refl, sym, ◌∙◌, ap, subst, inl, inr, ◌⊎◌, ℕ, Bool, true, false, List, Option, Some, arith}
 use Rattle.std.specs.Prelude.{IfErr, OnOk, Ok, Err, Result}
 use Rattle.std.proofs.lemmas.Bool.{false≢true}
-use Rattle.c2_base.proofs.Growing.{grows_none}
 use Rattle.c2_base.specs.Sink.{WritesSink, unsaid}
 use Rattle.c2_calls_spec.proofs.SourceLemmas.{stays_as_it_was}
 use Rattle.c2_spec.specs.Judges.Panel.{Judges, LeavesJudges, NoneFell}
@@ -11,12 +10,12 @@ use Rattle.c2_usage.specs.declared.types.Command.{Command}
 use Rattle.c2_usage.specs.declared.types.Role.{Role}
 use Rattle.c2_usage.specs.declared.types.Roles.{Roles}
 use Rattle.c2_cmd_outcome.specs.Reply.{EndsFile, FileEnd, end_of}
-use Rattle.c2_cmd.specs.Left.{FileEnds, KeepsOut, LeavesOut, LeavesReport, LeavesSource}
+use Rattle.c2_cmd.specs.Left.{FileEnds, KeepsOut, KeepsPanel, KeepsReport, KeepsSource, LeavesOut, LeavesReport, LeavesSource}
 use Rattle.c2_cmd.specs.Outcome.{names}
 use Rattle.c2_cmd.specs.Run.{Call, HasNotDue, IsUnused, LeavesUnused, Untouched}
 use Rattle.c2_cmd.specs.Sources.{SourceName, is_source, of_source, the_fourth, the_media, the_second, the_third}
 use Rattle.c2_cmd.proofs.Commands.{of_command}
-use Rattle.c2_cmd_outcome.specs.Status.{WithoutFault, status_of}
+use Rattle.c2_cmd_outcome.specs.Status.{WithFault, IfAnswered, status_of}
 use Rattle.c2_cmd_outcome.specs.declared.reply.Fault.{Fault}
 use Rattle.c2_cmd_outcome.specs.declared.reply.Fault.TheVariants.{Input, Output, Judge, Memory}
 use Rattle.c2_cmd_outcome.specs.declared.reply.Reply.{Reply}
@@ -24,11 +23,12 @@ use Rattle.c2_cmd_outcome.specs.declared.types.Answer.{Answer}
 use Rattle.c2_cmd_outcome.specs.declared.types.Answer.TheVariants as answer
 use Rattle.c2_cmd_outcome.specs.declared.types.Status.{Status}
 use Rattle.c2_cmd_outcome.specs.declared.types.Status.TheVariants.{Done, Failing, Refused, NoStore, Usage, InputFault, OutputFault, JudgeFault, NoMemory, DifferentClaims, Evidence, BuildRefused, NotAccepted, StripRefused}
+use Rattle.c2_base.proofs.Written.{grows_none}
 
 -- ---- statuses
 
 -- what holds anyway holds after every answer but a fault
-pub without : (claim : Type 0) (s : Status) → claim → WithoutFault claim s
+pub without : (claim : Type 0) (s : Status) → claim → IfAnswered claim s
 without claim Done h = h
 without claim Failing h = h
 without claim Refused h = h
@@ -45,12 +45,33 @@ without claim NotAccepted h = h
 without claim StripRefused h = h
 
 -- what holds of an `Ok` holds after every answer but a fault
-pub quiet_end : (claim : Type 0) (r : Result Reply Fault) → OnOk r claim → WithoutFault claim (end_of r)
+pub quiet_end : (claim : Type 0) (r : Result Reply Fault) → OnOk r claim → IfAnswered claim (end_of r)
 quiet_end claim (Ok reply) h = without claim (status_of reply.answer) h
 quiet_end claim (Err Input) h = tt
 quiet_end claim (Err Output) h = tt
 quiet_end claim (Err Judge) h = tt
 quiet_end claim (Err Memory) h = tt
+
+-- a fault is no answer
+pub unanswered : (claim : Type 0) (f : Fault) → IfAnswered claim (end_of (Err f))
+unanswered claim Input = tt
+unanswered claim Output = tt
+unanswered claim Judge = tt
+unanswered claim Memory = tt
+
+-- what holds anyway holds after a fault
+failed : (claim : Type 0) (f : Fault) → claim → WithFault claim (end_of (Err f))
+failed claim Input h = h
+failed claim Output h = h
+failed claim Judge h = h
+failed claim Memory h = h
+
+-- a judge's fault has a status of its own
+judge_only : (f : Fault) → end_of (Err f) ≡ JudgeFault → f ≡ Judge
+judge_only Input e = absurd (cc (e))
+judge_only Output e = absurd (cc (e))
+judge_only Judge e = refl
+judge_only Memory e = absurd (cc (e))
 
 -- ---- sources
 
@@ -64,6 +85,14 @@ pub idle_source : {S : Type 0} (len : S → ℕ) (known : S → Option (List ℕ
     (r : Result Reply Fault) → LeavesSource len known faults s s r
 idle_source len known faults s r =
     record { stays = stays_as_it_was len known faults s; quiet = always (faults s ≡ faults s) r refl }
+
+-- what is left of a source by the status that the result leads to
+pub kept_source : {S : Type 0} {len : S → ℕ} {known : S → Option (List ℕ)} {faults : S → ℕ} {old new : S}
+    {r : Result Reply Fault} {s : Status} → end_of r ≡ s → LeavesSource len known faults old new r
+    → KeepsSource len known faults old new s
+kept_source {S} {len} {known} {faults} {old} {new} {r} ends leaves =
+    subst (λ (x : Status). KeepsSource len known faults old new x) ends
+    (record { stays = leaves.stays; quiet = quiet_end (faults new ≡ faults old) r leaves.quiet })
 
 -- ---- a new file
 
@@ -154,7 +183,7 @@ idle_out written finished faults named k r none = record {
   ends = λ used. absurd (false≢true (sym none ∙ used));
 }
 
--- that of a command that writes one
+-- the new file of a command that writes one
 pub written_out : {K : Type 0} {written : K → Option (List ℕ)} {finished : K → Bool} {faults : K → ℕ}
     {Cause : ℕ → ℕ → Fault → Type 0} {named : Bool} {old new : K} {r : Result Reply Fault}
     → WritesSink written unsaid faults Cause old new r → EndsFile finished faults old new r
@@ -167,7 +196,7 @@ written_out writes ends = record {
   ends = λ used. ends.ends;
 }
 
--- that before memory ran out
+-- the new file before memory ran out
 pub idle_memory : {K : Type 0} (written : K → Option (List ℕ)) (finished : K → Bool) (faults : K → ℕ) (named : Bool)
     (k : K) → LeavesOut written finished faults named k k (Err Memory)
 idle_memory written finished faults named k = record {
@@ -211,6 +240,24 @@ begun_report written finished faults Cause whole old new r writes judged early =
   judged = judged;
 }
 
+-- what is left of it where there is no reply
+pub kept_report : {W : Type 0} {written : W → Option (List ℕ)} {finished : W → Bool} {faults : W → ℕ} {whole : Bool}
+    {Ready : Type 0} {old new : W} (f : Fault) {s : Status} → s ≡ end_of (Err f)
+    → LeavesReport written finished faults whole old new (Err f) → (new ≡ old) ⊎ Ready
+    → KeepsReport written finished faults whole Ready old new s
+kept_report {W} {written} {finished} {faults} {whole} {Ready} {old} {new} f is leaves behind =
+    subst (λ (x : Status). KeepsReport written finished faults whole Ready old new x) (sym is)
+    (record {
+      later = leaves.later;
+      quiet = unanswered (faults new ≡ faults old) f;
+      grows = leaves.grows;
+      is_finished = unanswered (finished new ≡ true) f;
+      unfinished = failed (finished new ≡ finished old) f leaves.unfinished;
+      unwritten = λ all none. leaves.unwritten all;
+      judged = λ same. leaves.judged (judge_only f same);
+      behind = behind;
+    })
+
 -- ---- judges
 
 -- no count of a list has fallen below itself
@@ -225,6 +272,18 @@ idle_panel js r = record {
   faults_later = still js.faults;
   ok = always (js.faults ≡ js.faults) r refl;
 }
+
+-- what is left of them by the status that the result leads to
+pub kept_panel : {old new : Judges} {r : Result Reply Fault} {s : Status} → end_of r ≡ s → LeavesJudges old new r
+    → KeepsPanel old new s
+kept_panel {old} {new} {r} ends leaves =
+    subst (λ (x : Status). KeepsPanel old new x) ends
+    (record {
+      same = leaves.same;
+      asked_later = leaves.asked_later;
+      faults_later = leaves.faults_later;
+      quiet = quiet_end (new.faults ≡ old.faults) r leaves.ok;
+    })
 
 -- ---- what a command doesn't use
 

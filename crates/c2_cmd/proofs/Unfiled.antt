@@ -31,41 +31,41 @@ unfiled_report Is over (refused reason number) e h = ap (λ (o : Outcome). o.fil
 unfiled_report Is over absent e h = ap (λ (o : Outcome). o.file) h
 unfiled_report Is over (here start len a) e h = over start len a e h
 
--- nor has the answer of the check
+-- the answer of the check has no file
 unfiled_answer : (a : Checked) → (answered a).file ≡ None
 unfiled_answer (checked.Valid summary) = refl
 unfiled_answer (checked.Failing failing) = refl
 unfiled_answer (checked.Refused reason number) = refl
 unfiled_answer checked.NoStore = refl
 
--- nor a comparison
+-- what is reported of a comparison has no file
 pub unfiled_comparison : (what : Compared) (text : List ℕ) → (compare_outcome what text).file ≡ None
 unfiled_comparison (compared.NotAccepted side a) text = refl
 unfiled_comparison compared.DifferentClaims text = refl
 unfiled_comparison (compared.Evidence kind) text = refl
 unfiled_comparison (compared.Same summary) text = refl
 
--- nor what is to be signed
+-- what is reported of bytes that are to be signed has no file
 unfiled_plan : (r : Result (List ℕ) BuildError) → (plan_outcome r).file ≡ None
 unfiled_plan (Ok bytes) = refl
 unfiled_plan (Err e) = refl
 
--- nor what is to be signed of a file with its store in front
+-- what is reported of bytes that are to be signed of a file with its store in front has no file
 unfiled_plan_front : (r : Result (List ℕ) FrontRefusal) → (plan_front_outcome r).file ≡ None
 unfiled_plan_front (Ok bytes) = refl
 unfiled_plan_front (Err refusal) = refl
 
--- nor what is to be signed of a store that collects
+-- what is reported of bytes that are to be signed of a store that collects has no file
 unfiled_plan_collect : (r : Result (List ℕ) CollectRefusal) → (plan_collect_outcome r).file ≡ None
 unfiled_plan_collect (Ok bytes) = refl
 unfiled_plan_collect (Err refusal) = refl
 
--- nor a sample
+-- what is reported of a sample has no file
 unfiled_sample : (n : ℕ) (s : Sampled) → (sample_outcome n s).file ≡ None
 unfiled_sample n (sampled.Checked lengths found) = refl
 unfiled_sample n (sampled.Refused e) = refl
 
--- nor what the check with an external store comes to
+-- what is reported of the check with an external store has no file
 unfiled_external : (e : External) → (external_outcome e).file ≡ None
 unfiled_external (Of a) = unfiled_answer a
 unfiled_external (StoreRefused reason number) = refl

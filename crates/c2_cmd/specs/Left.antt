@@ -5,9 +5,10 @@ use Rattle.std.specs.declared.option.Option.{Option}
 use Rattle.std.specs.declared.result.Result.{Result}
 use Rattle.c2_base.specs.Sink.{Grows}
 use Rattle.c2_base.specs.Source.{StaysSource}
+use Rattle.c2_build_endings.specs.Sources.{SourceUse}
 use Rattle.c2_spec.specs.Judges.Panel.{NoneFell, Judges}
 use Rattle.c2_cmd_outcome.specs.Reply.{FileEnd}
-use Rattle.c2_cmd_outcome.specs.Status.{HasNoReply, WithFault, WithoutFault}
+use Rattle.c2_cmd_outcome.specs.Status.{HasNoReply, WithFault, IfAnswered}
 use Rattle.c2_cmd_outcome.specs.declared.reply.Fault.{Fault}
 use Rattle.c2_cmd_outcome.specs.declared.reply.Fault.TheVariants.{Judge}
 use Rattle.c2_cmd_outcome.specs.declared.reply.Reply.{Reply}
@@ -19,7 +20,18 @@ use Rattle.c2_cmd_outcome.specs.declared.types.Status.TheVariants.{Done, InputFa
 -- What is left of a source: its length and its bytes; its count of faults hasn't fallen, and after an answer it is as it was.
 pub record KeepsSource {S : Type 0} (len : S → ℕ) (known : S → Option (List ℕ)) (faults : S → ℕ) (old new : S) (status : Status) : Type 0 where
   pub stays : StaysSource len known faults old new
-  pub quiet : WithoutFault (faults new ≡ faults old) status
+  pub quiet : IfAnswered (faults new ≡ faults old) status
+
+-- What is left of the sources.
+pub record KeepsSources {A B C D : Type 0} (a : SourceUse A) (b : SourceUse B) (c : SourceUse C) (d : SourceUse D) (status : Status) : Type 0 where
+  -- the media file
+  pub media : KeepsSource a.len a.known a.faults a.old a.new status
+  -- the second file
+  pub second : KeepsSource b.len b.known b.faults b.old b.new status
+  -- the third file
+  pub third : KeepsSource c.len c.known c.faults c.old c.new status
+  -- the fourth file
+  pub fourth : KeepsSource d.len d.known d.faults d.old d.new status
 
 -- Whether the new file is finished, by the status: after a failure of a source it isn't by this call; after one of a sink it isn't,
 -- unless it is the report that failed behind it; out of memory it is untouched, or finished; a command that is done has finished the
@@ -35,7 +47,7 @@ FileEnds named ReportFailed Untouched before now status = Untouched
 -- one that rose leaves the file unfinished; and whether it is finished, by the status.
 pub record KeepsOut {K : Type 0} (written : K → Option (List ℕ)) (finished : K → Bool) (faults : K → ℕ) (named : Bool) (ReportFailed : Type 0) (old new : K) (status : Status) : Type 0 where
   pub later : faults old ≤ faults new
-  pub quiet : WithoutFault (faults new ≡ faults old) status
+  pub quiet : IfAnswered (faults new ≡ faults old) status
   pub grows : Grows (written old) (written new)
   pub unfinished : faults old < faults new → finished new ≡ finished old
   pub ends : FileEnds named ReportFailed (new ≡ old) (finished old) (finished new) status
@@ -46,9 +58,9 @@ pub record KeepsOut {K : Type 0} (written : K → Option (List ℕ)) (finished :
 -- file is untouched or finished.
 pub record KeepsReport {W : Type 0} (written : W → Option (List ℕ)) (finished : W → Bool) (faults : W → ℕ) (whole : Bool) (FileReady : Type 0) (old new : W) (status : Status) : Type 0 where
   pub later : faults old ≤ faults new
-  pub quiet : WithoutFault (faults new ≡ faults old) status
+  pub quiet : IfAnswered (faults new ≡ faults old) status
   pub grows : Grows (written old) (written new)
-  pub is_finished : WithoutFault (finished new ≡ true) status
+  pub is_finished : IfAnswered (finished new ≡ true) status
   pub unfinished : WithFault (finished new ≡ finished old) status
   pub unwritten : whole ≡ true → HasNoReply status → new ≡ old
   pub judged : status ≡ JudgeFault → new ≡ old
@@ -59,7 +71,7 @@ pub record KeepsPanel (old new : Judges) (status : Status) : Type 0 where
   pub same : new.said ≡ old.said
   pub asked_later : NoneFell old.asked new.asked
   pub faults_later : NoneFell old.faults new.faults
-  pub quiet : WithoutFault (new.faults ≡ old.faults) status
+  pub quiet : IfAnswered (new.faults ≡ old.faults) status
 
 -- ---- for private clauses: before the reply is written
 

@@ -17,7 +17,7 @@ use Rattle.c2_usage.specs.CommandLine.{is_out, lets_ask, roles_of}
 use Rattle.c2_cmd_outcome.specs.Left.{Delivers, Finishes, Leaves, SinkState}
 use Rattle.c2_cmd_outcome.specs.Outcome.{Outcome}
 use Rattle.c2_cmd_outcome.specs.Reply.{Begins, HasWhole, TakesFile, fault_heard}
-use Rattle.c2_cmd_outcome.specs.Status.{WithoutFault, status_of}
+use Rattle.c2_cmd_outcome.specs.Status.{IfAnswered, status_of}
 use Rattle.c2_cmd_outcome.specs.declared.reply.Fault.{Fault}
 use Rattle.c2_cmd_outcome.specs.declared.reply.Reply.{Reply}
 use Rattle.c2_cmd_outcome.specs.declared.types.Status.{Status}
@@ -108,7 +108,7 @@ pub record IsKnown (c : Call) : Type 0 where
 
 -- ---- what is left untouched
 
--- that objects are as they were: each source, the sink for the new file, and the judges
+-- which objects are as they were: each source, the sink for the new file, and the judges
 pub record Untouched : Type 1 where
   pub sources : Each (Type 0)
   pub out : Type 0
@@ -231,7 +231,7 @@ pub record RunsTo (call : Call) (expected : Outcome) (old new : RunState) (SameJ
   pub met : HasWholeFile old.file new.file status → HasMet call
   pub asked : (qs : List Question) → CallAsks call qs → AskedPanel qs old.judges new.judges status
   pub unasked : CallAsks call [] → SameJudges
-  pub complete : WithoutFault (HasAnswered expected old new status) status
+  pub complete : IfAnswered (HasAnswered expected old new status) status
 
 -- ---- a reply
 

@@ -1,28 +1,28 @@
 // The top call.
-ghost use Rattle.std.specs.Prelude.{◌≡◌, ◌⊎◌, true, map, string_bytes, OnOk, OnErr};
+ghost use Rattle.std.specs.Prelude.{◌≡◌, ◌⊎◌, true, map, string_bytes, Err, OnOk, OnErr};
 ghost use Rattle.c2_base.specs.Causes.{HasCause, Rose};
 ghost use Rattle.c2_base.specs.Sink.{HasWrittenPrefix};
+ghost use Rattle.c2_build_endings.specs.Sources.{use_of};
 ghost use Rattle.c2_spec.specs.Judges.Panel.{LeavesJudges, judges_of};
 ghost use Rattle.c2_usage.specs.CommandLine.{is_out};
 ghost use Rattle.c2_cmd_outcome.specs.Left.{Delivers, state_of};
 ghost use Rattle.c2_cmd_outcome.specs.Outcome.{Outcome};
 ghost use Rattle.c2_cmd_outcome.specs.Reply.{end_of};
-ghost use Rattle.c2_cmd.specs.Left.{KeepsOut, KeepsPanel, KeepsReport, KeepsSource, LeavesOut, LeavesReport, LeavesSource};
+ghost use Rattle.c2_cmd.specs.Left.{KeepsOut, KeepsPanel, KeepsReport, KeepsSources, LeavesOut, LeavesReport, LeavesSource};
 ghost use Rattle.c2_cmd.specs.Outcome.{digest_alg, has_whole_report, names};
 ghost use Rattle.c2_cmd.specs.Run.{ComesTo, Faults, IsCaused, IsKnown, LeavesUnused, RepliesTo, RunState, RunsTo, Untouched, call_of, roles_in};
 
 use crate::laws::each_run_has_an_outcome;
 use c2_base::{Failed, Sink, Source, write_all};
-use c2_build_restored_spec::a_built_file_is_restored;
-use c2_cmd_building::{one_building_outcome, reply_to_embed, reply_to_plan, reply_to_sample};
-use c2_cmd_collect::{one_collect_outcome, reply_to_embed_collect, reply_to_plan_collect};
+use c2_cmd_building::{reply_to_embed, reply_to_plan, reply_to_sample};
+use c2_cmd_collect::{reply_to_embed_collect, reply_to_plan_collect};
 use c2_cmd_extract::reply_to_extract;
-use c2_cmd_front::{one_front_outcome, reply_to_embed_front, reply_to_plan_front};
+use c2_cmd_front::{reply_to_embed_front, reply_to_plan_front};
 use c2_cmd_outcome::types::Status;
 use c2_cmd_outcome::{Fault, Reply, usage_reply};
 use c2_cmd_reading::{
-    one_reading_outcome, reply_to_compare, reply_to_digest, reply_to_list, reply_to_questions,
-    reply_to_show, reply_to_validate, reply_to_validate_external,
+    reply_to_compare, reply_to_digest, reply_to_list, reply_to_questions, reply_to_show,
+    reply_to_validate, reply_to_validate_external,
 };
 use c2_cmd_strip::reply_to_strip;
 use c2_hash::{Alg, Hashing};
@@ -128,10 +128,10 @@ pub fn run<H: Hashing, A: Source, B: Source, C: Source, D: Source, K: Sink, W: S
         LeavesUnused call untouched }
 
     // What is left of each object, whatever it holds. The new file is finished before the report is begun.
-    ensures media { KeepsSource A.len A.known A.faults media.old media.new result }
-    ensures second { KeepsSource B.len B.known B.faults second.old second.new result }
-    ensures third { KeepsSource C.len C.known C.faults third.old third.new result }
-    ensures fourth { KeepsSource D.len D.known D.faults fourth.old fourth.new result }
+    ensures sources { KeepsSources (use_of A.len A.known A.faults media.old media.new)
+        (use_of B.len B.known B.faults second.old second.new)
+        (use_of C.len C.known C.faults third.old third.new)
+        (use_of D.len D.known D.faults fourth.old fourth.new) result }
     ensures out { let named = names is_out (roles_in words.now.items) in
         let failed = Rose (W.faults report.old) (W.faults report.new) in
         KeepsOut K.written K.finished K.faults named failed out.old out.new result }
@@ -142,16 +142,12 @@ pub fn run<H: Hashing, A: Source, B: Source, C: Source, D: Source, K: Sink, W: S
         let new = judges_of says asked_times judge_faults judges.new.items in
         KeepsPanel old new result }
 {
-    // Only the prover needs this law.
     each_run_has_an_outcome();
     let reply = match reply_to(
         alloc, hashing, words, media, second, third, fourth, out, report, judges,
     ) {
         Ok(reply) => reply,
-        Err(Fault::Input) => return Status::InputFault,
-        Err(Fault::Output) => return Status::OutputFault,
-        Err(Fault::Judge) => return Status::JudgeFault,
-        Err(Fault::Memory) => return Status::NoMemory,
+        Err(fault) => return fault_status(fault),
     };
     match deliver(&reply, report) {
         Ok(()) => reply.answer.status(),
@@ -234,12 +230,6 @@ fn reply_to<H: Hashing, A: Source, B: Source, C: Source, D: Source, K: Sink, W: 
         let new = judges_of says asked_times judge_faults judges.new.items in
         LeavesJudges old new result }
 {
-    // Only the prover needs these laws.
-    one_reading_outcome();
-    one_building_outcome();
-    one_front_outcome();
-    one_collect_outcome();
-    a_built_file_is_restored();
     let found = match roles(alloc, words) {
         Ok(found) => found,
         Err(RolesError::Usage) => return usage_reply(alloc),
@@ -268,6 +258,18 @@ fn reply_to<H: Hashing, A: Source, B: Source, C: Source, D: Source, K: Sink, W: 
         Command::EmbedCollect => reply_to_embed_collect(
             alloc, hashing, media, second, third, fourth, judges, out,
         ),
+    }
+}
+
+// The status of a run without a reply.
+fn fault_status(fault: Fault) -> Status
+    ensures { result ≡ end_of (Err fault) }
+{
+    match fault {
+        Fault::Input => Status::InputFault,
+        Fault::Output => Status::OutputFault,
+        Fault::Judge => Status::JudgeFault,
+        Fault::Memory => Status::NoMemory,
     }
 }
 

@@ -1,2 +1,3 @@
 mod Making
 mod Sampling
+pub mod TheLaws

@@ -11,9 +11,9 @@ use Rattle.c2_build_refusals.specs.Sinks.{EndsOut}
 use Rattle.c2_build_refusals.specs.declared.error.BuildError.{BuildError}
 use Rattle.c2_build_refusals.specs.declared.types.Embedded.{Embedded}
 use Rattle.c2_build_endings.specs.Endings.{build_ending}
-use Rattle.c2_build.specs.Answers.{EmbedsFile, HasRange, Writes, file_of}
-use Rattle.c2_build.specs.Building.{Built, IsEmbedded}
-use Rattle.c2_build.specs.Meeting.{BuiltMeets, IsMet, OneEmbedding}
+use Rattle.c2_build_plain.specs.Answers.{EmbedsFile, HasRange, Writes, file_of}
+use Rattle.c2_build_plain.specs.Building.{Built, IsEmbedded}
+use Rattle.c2_build_plain.specs.Meeting.{BuiltMeets, IsBuildMet, OneEmbedding}
 use Rattle.c2_cmd_outcome.specs.Left.{state_of}
 use Rattle.c2_cmd_outcome.specs.Outcome.{IsOneOutcome}
 use Rattle.c2_cmd_outcome.specs.Reply.{IsFaultOf, IsReplyTo}
@@ -31,7 +31,8 @@ range_same : (x : Embedded) (b : Built) → HasRange x b → embedded_outcome x 
 range_same x b h = ap (λ (n : ℕ). range_outcome n x.length) h.start ∙ ap (range_outcome b.start) h.length
 
 -- a range or an error that is answered is what the inputs come to
-range_comes : (Is : Result Built BuildError → Type 0) (r : Result Embedded BuildError) → ComesAs HasRange Is r → ComesAs (λ (x : Embedded) (b : Built). embedded_outcome x ≡ file_report b) Is r
+range_comes : (Is : Result Built BuildError → Type 0) (r : Result Embedded BuildError) → ComesAs HasRange Is r
+    → ComesAs (λ (x : Embedded) (b : Built). embedded_outcome x ≡ file_report b) Is r
 range_comes Is (Ok x) h = (h.0, h.1, range_same x h.0 h.2)
 range_comes Is (Err e) h = h
 
@@ -41,25 +42,35 @@ file_same (Ok b) = refl
 file_same (Err e) = refl
 
 -- what the new file meets is met where one is answered
-met_ok : (hash : Alg → List ℕ → List ℕ) (said : Question → Verdict) (media definition message : List ℕ) (r : Result Embedded BuildError) → IsMet hash said media definition message r
+met_ok :
+    (hash : Alg → List ℕ → List ℕ) (said : Question → Verdict) (media definition message : List ℕ)
+    (r : Result Embedded BuildError)
+    → IsBuildMet hash said media definition message r
     → OnOk r ((b : Built) → IsEmbedded hash said media definition message (Ok b) → BuiltMeets hash said media definition message b)
 met_ok hash said media definition message (Ok x) h = h
 met_ok hash said media definition message (Err e) h = tt
 
 -- `embed` has one outcome
-pub one_embedding : OneEmbedding → (hash : Alg → List ℕ → List ℕ) (said : Question → Verdict) (media definition message : List ℕ) → IsOneOutcome (IsEmbedOutcome hash said media definition message)
-one_embedding law hash said media definition message x y h k = h.2 ∙ ap embed_outcome (law hash said media definition message h.0 k.0 h.1 k.1) ∙ sym k.2
+pub one_embedding : OneEmbedding
+    → (hash : Alg → List ℕ → List ℕ) (said : Question → Verdict) (media definition message : List ℕ)
+    → IsOneOutcome (IsEmbedOutcome hash said media definition message)
+one_embedding law hash said media definition message x y h k =
+    h.2 ∙ ap embed_outcome (law hash said media definition message h.0 k.0 h.1 k.1) ∙ sym k.2
 
 -- what is replied and written, and what that meets
-pub file_made : {K : Type 0} (written : K → Option (List ℕ)) (spare : K → Option ℕ) (finished : K → Bool) → OneEmbedding → (hash : Alg → List ℕ → List ℕ) (said : Question → Verdict) (media definition message : List ℕ) (old new : K) (r : Result Embedded BuildError)
-    (reply : Result Reply Fault) → EmbedsFile written spare finished hash said media definition message old new r → EndsOut finished old new r
+pub file_made : {K : Type 0} (written : K → Option (List ℕ)) (spare : K → Option ℕ) (finished : K → Bool) → OneEmbedding
+    → (hash : Alg → List ℕ → List ℕ) (said : Question → Verdict) (media definition message : List ℕ) (old new : K) (r : Result Embedded BuildError)
+    (reply : Result Reply Fault) → EmbedsFile written spare finished hash said media definition message old new r
+    → EndsOut finished old new r
     → IfOk reply (IsReplyTo (build_says embedded_outcome r)) → IfErr reply (IsFaultOf (build_says embedded_outcome r))
     → BuildsFile hash said media definition message (state_of written finished old) (state_of written finished new) reply
 file_made {K} written spare finished law hash said media definition message old new r reply h ends reports fails = record {
   made = makes_reply written finished (WritesNew file_bytes Is) (IsEmbedOutcome hash said media definition message) old new (build_ending r) (build_says embedded_outcome r) reply
       (build_fits embedded_outcome r (λ x. refl)) wrote (build_ends finished old new r ends)
       (build_outcome file_bytes file_report Is embedded_outcome r (λ x y. law hash said media definition message x y) (range_comes Is r h.answered)) reports fails;
-  meets = build_met written finished old new embedded_outcome r reply ends reports (met_ok hash said media definition message r h.meets);
+  meets =
+      build_met written finished old new embedded_outcome r reply ends reports
+      (met_ok hash said media definition message r h.meets);
 }
   where
     Is : Result Built BuildError → Type 0

@@ -35,6 +35,7 @@ sampled_words n (sampled.Refused e) (Ok reply) out =
 sampled_words n s (Err e) out = tt
 
 -- memory alone may be missing under a reply, whatever the cause of another fault
-pub memory_source : (source sink judge : Type 0) (r : Result Reply Fault) → IfErr r (λ e. e ≡ Memory) → IfErr r (CausedBy source sink judge)
+pub memory_source : (source sink judge : Type 0) (r : Result Reply Fault) → IfErr r (λ e. e ≡ Memory)
+    → IfErr r (CausedBy source sink judge)
 memory_source source sink judge (Ok reply) h = tt
 memory_source source sink judge (Err e) h = subst (CausedBy source sink judge) (sym h) tt

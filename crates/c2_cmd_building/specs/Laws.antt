@@ -4,8 +4,8 @@ use Rattle.std.specs.Prelude.{ℕ, ◌<◌, ◌^◌, All, List}
 use Rattle.c2_base.specs.declared.values.Question.{Question}
 use Rattle.c2_spec.specs.declared.digest.Alg.{Alg}
 use Rattle.c2_spec.specs.declared.panel.Verdict.{Verdict}
-use Rattle.c2_build.specs.Asked.{OneEmbedAsks, OnePlanAsks, SomeEmbedAsks, SomePlanAsks}
-use Rattle.c2_new_store_spec.specs.Fresh.{GivesDigests}
+use Rattle.c2_build_plain.specs.Asked.{OneEmbedAsks, OnePlanAsks, SomeEmbedAsks, SomePlanAsks}
+use Rattle.c2_new_file_spec.specs.Fresh.{GivesDigests}
 use Rattle.c2_cmd_outcome.specs.Outcome.{IsOneOutcome, Outcome}
 use Rattle.c2_sample.specs.Sample.{EachSampleAsks, OneSampleAsks}
 use Rattle.c2_cmd_building.specs.Outcomes.{IsEmbedOutcome, IsPlanOutcome, IsSampleOutcome}

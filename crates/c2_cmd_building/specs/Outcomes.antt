@@ -5,7 +5,7 @@ use Rattle.c2_base.specs.declared.values.Question.{Question}
 use Rattle.c2_spec.specs.declared.digest.Alg.{Alg}
 use Rattle.c2_spec.specs.declared.panel.Verdict.{Verdict}
 use Rattle.c2_build_refusals.specs.declared.error.BuildError.{BuildError}
-use Rattle.c2_build.specs.Building.{Built, IsEmbedded, IsPlanned}
+use Rattle.c2_build_plain.specs.Building.{Built, IsEmbedded, IsPlanned}
 use Rattle.c2_sample.specs.Sample.{IsSampled, sample_line}
 use Rattle.c2_sample.specs.declared.types.Sampled.{Sampled}
 use Rattle.c2_sample.specs.declared.types.Sampled.TheVariants as sampled

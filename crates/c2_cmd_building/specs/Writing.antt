@@ -4,8 +4,8 @@ use Rattle.std.specs.declared.result.Result.{Result}
 use Rattle.c2_base.specs.declared.values.Question.{Question}
 use Rattle.c2_spec.specs.declared.digest.Alg.{Alg}
 use Rattle.c2_spec.specs.declared.panel.Verdict.{Verdict}
-use Rattle.c2_build.specs.Building.{Built, IsEmbedded}
-use Rattle.c2_build.specs.Meeting.{BuiltMeets}
+use Rattle.c2_build_plain.specs.Building.{Built, IsEmbedded}
+use Rattle.c2_build_plain.specs.Meeting.{BuiltMeets}
 use Rattle.c2_cmd_outcome.specs.Left.{SinkState}
 use Rattle.c2_cmd_outcome.specs.Reply.{HasWhole, MakesFile}
 use Rattle.c2_cmd_outcome.specs.declared.reply.Fault.{Fault}

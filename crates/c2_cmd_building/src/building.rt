@@ -1,9 +1,8 @@
 // The commands `plan` and `embed`.
-ghost use Rattle.std.specs.Prelude.{◌≡◌, ◌≢◌, ◌⊎◌, ℕ, List, map, IfOk};
+ghost use Rattle.std.specs.Prelude.{◌≡◌, ◌≢◌, ℕ, List, map, IfOk};
 ghost use Rattle.std.specs.Option.{ForSome};
-ghost use Rattle.c2_base.specs.Causes.{Rose};
-ghost use Rattle.c2_base.specs.Source.{ReadsSource};
-ghost use Rattle.c2_build.specs.Answers.{AsksEmbedded, AsksPlanned};
+ghost use Rattle.c2_build_endings.specs.Sources.{ReadsPlanned, ReadsSigned, use_of};
+ghost use Rattle.c2_build_plain.specs.Answers.{AsksEmbedded, AsksPlanned};
 ghost use Rattle.c2_build_refusals.specs.Stages.{IsDefinitionTold, IsMediaRefused, IsMessageTold, LeavesUndue};
 ghost use Rattle.c2_rules.specs.Asking.{HearsPanel};
 ghost use Rattle.c2_spec.specs.Judges.Panel.{panel_says};
@@ -14,7 +13,7 @@ ghost use Rattle.c2_cmd_written_spec.specs.Written.{WritesOut};
 ghost use Rattle.c2_cmd_building.specs.Writing.{BuildsFile};
 
 use c2_base::{Sink, Source};
-use c2_build::{a_build_comes_to_one_thing, embed, plan};
+use c2_build_plain::{embed, plan};
 use c2_cmd_build_replies::{embedded_reply, planned_reply};
 use c2_cmd_outcome::types::Answer;
 use c2_cmd_outcome::{Fault, Reply};
@@ -41,12 +40,9 @@ pub fn reply_to_plan<H: Hashing, A: Source, B: Source>(
         → IsDefinitionTold a (B.known definition.old) b
         → IfOk result (λ reply. IsPlanOutcome H.digest_of said a b (outcome_of reply))) }
     ensures words { IfOk result (λ reply. reply.answer ≢ Answer.Usage) }
-    ensures media { ReadsSource A.len A.known A.faults
-        (IsReadingCause (Rose (B.faults definition.old) (B.faults definition.new)))
-        media.old media.new result }
-    ensures definition { ReadsSource B.len B.known B.faults
-        (IsReadingCause (Rose (A.faults media.old) (A.faults media.new)))
-        definition.old definition.new result }
+    ensures sources { ReadsPlanned IsReadingCause
+        (use_of A.len A.known A.faults media.old media.new)
+        (use_of B.len B.known B.faults definition.old definition.new) result }
     ensures not_due { ForSome (A.known media.old)
         (λ a. IsMediaRefused a → definition.new ≡ definition.old) }
     ensures panel { HearsPanel says asked_times judge_faults fault_heard
@@ -84,25 +80,15 @@ pub fn reply_to_embed<H: Hashing, A: Source, B: Source, C: Source, K: Sink>(
 
     // Whatever the files hold.
     ensures words { IfOk result (λ reply. reply.answer ≢ Answer.Usage) }
-    ensures media { ReadsSource A.len A.known A.faults (IsInputCause
-        (Rose (B.faults definition.old) (B.faults definition.new)
-        ⊎ Rose (C.faults message.old) (C.faults message.new)))
-        media.old media.new result }
-    ensures definition { ReadsSource B.len B.known B.faults (IsInputCause
-        (Rose (A.faults media.old) (A.faults media.new)
-        ⊎ Rose (C.faults message.old) (C.faults message.new)))
-        definition.old definition.new result }
-    ensures message { ReadsSource C.len C.known C.faults (IsInputCause
-        (Rose (A.faults media.old) (A.faults media.new)
-        ⊎ Rose (B.faults definition.old) (B.faults definition.new)))
-        message.old message.new result }
+    ensures sources { ReadsSigned IsInputCause
+        (use_of A.len A.known A.faults media.old media.new)
+        (use_of B.len B.known B.faults definition.old definition.new)
+        (use_of C.len C.known C.faults message.old message.new) result }
     ensures out { WritesOut K.written K.finished K.faults out.old out.new result }
     ensures panel { HearsPanel says asked_times judge_faults fault_heard (AsksEmbedded
         H.digest_of (A.known media.old) (B.known definition.old) (C.known message.old))
         judges.old judges.new result }
 {
-    // Only the prover needs this law.
-    a_build_comes_to_one_thing();
     let embedded = embed(alloc, hashing, media, definition, message, judges, out);
     embedded_reply(alloc, embedded)
 }

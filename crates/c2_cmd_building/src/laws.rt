@@ -1,21 +1,14 @@
 //! Laws of the outcomes of commands that build.
 ghost use Rattle.c2_cmd_building.specs.Laws.{EachBuildingOutcome, EachBuildingQuestions, OneBuildingOutcome, OneBuildingQuestions};
 
-use c2_build::{
-    a_build_asks_one_list, a_build_comes_to_one_thing, each_build_asks_a_list,
-    each_build_comes_to_something,
-};
-use c2_sample::{a_sample_comes_to_one_thing, each_sample_comes_to_something};
+use c2_build_plain::{each_build_asks_a_list, each_build_comes_to_something};
+use c2_sample::each_sample_comes_to_something;
 
 /// Each command that builds comes to one outcome at most, and asks one list of questions at most.
 pub fn one_building_outcome()
     ensures outcome { OneBuildingOutcome }
     ensures questions { OneBuildingQuestions }
-{
-    a_build_comes_to_one_thing();
-    a_build_asks_one_list();
-    a_sample_comes_to_one_thing();
-}
+{}
 
 /// Each command that builds comes to an outcome and asks a list of questions where its files are bytes.
 pub fn each_building_outcome()

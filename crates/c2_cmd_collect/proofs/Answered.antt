@@ -4,7 +4,7 @@ use Rattle.std.specs.Prelude.{IfOk, Ok, Err}
 use Rattle.std.specs.declared.result.Result.{Result}
 use Rattle.c2_collect_spec.specs.Order.{CollectRefusal}
 use Rattle.c2_collect_spec.specs.Outcomes.{NewFile}
-use Rattle.c2_build_refusals.specs.Kinds.{ComesAs, ComesTo}
+use Rattle.c2_build_refusals.specs.Kinds.{ComesAs, HasOutcome}
 use Rattle.c2_build_refusals.specs.declared.error.BuildError.{BuildError}
 use Rattle.c2_build_refusals.specs.declared.types.Embedded.{Embedded}
 use Rattle.c2_build_collect_base.specs.Errors.{IsAnswerTo, error_of}
@@ -22,7 +22,8 @@ use Rattle.c2_cmd_written_spec.proofs.Refused.{ComesWith, one_with, refused_come
 use Rattle.c2_cmd_collect.specs.Outcomes.{embed_outcome, file_bytes, file_report, plan_outcome}
 
 -- a value or an error that is answered is what the inputs come to
-answer_comes : {A : Type 0} (Is : Result A CollectRefusal → Type 0) (r : Result A BuildError) → IsAnswerTo Is r → ComesTo (ComesWith error_of Is) r
+answer_comes : {A : Type 0} (Is : Result A CollectRefusal → Type 0) (r : Result A BuildError) → IsAnswerTo Is r
+    → HasOutcome (ComesWith error_of Is) r
 answer_comes Is (Ok a) h = (Ok a, h, refl)
 answer_comes Is (Err e) h = refused_comes error_of Is e h
 
@@ -58,5 +59,6 @@ pub collect_outcome : (Is : Result NewFile CollectRefusal → Type 0) (r : Resul
     → (expected : Outcome) → ((s : Result NewFile CollectRefusal) × Is s × (expected ≡ embed_outcome s))
     → IsOutcomeOf (WritesNew file_bytes (ComesWith error_of Is)) (build_ending r) (build_says embedded_outcome r) expected
 collect_outcome Is r one answered expected is =
-    build_outcome file_bytes file_report (ComesWith error_of Is) embedded_outcome r (one_with error_of Is one) (range_comes Is r answered) expected
+    build_outcome file_bytes file_report (ComesWith error_of Is) embedded_outcome r (one_with error_of Is one)
+    (range_comes Is r answered) expected
     (with_error error_of is.0, (is.0, is.1, refl), is.2)

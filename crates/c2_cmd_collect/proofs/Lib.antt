@@ -1,3 +1,4 @@
 mod Answered
 mod Checks
 mod Making
+pub mod TheLaws

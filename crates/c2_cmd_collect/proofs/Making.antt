@@ -14,7 +14,7 @@ use Rattle.c2_build_refusals.specs.declared.error.BuildError.{BuildError}
 use Rattle.c2_build_refusals.specs.declared.types.Embedded.{Embedded}
 use Rattle.c2_build_endings.specs.Endings.{build_ending}
 use Rattle.c2_build_collect_base.specs.Errors.{error_of}
-use Rattle.c2_build_collect.specs.Answers.{EmbedsCollected, IsMet, Writes, file_of}
+use Rattle.c2_build_collect.specs.Answers.{EmbedsCollected, IsCollectMet, Writes, file_of}
 use Rattle.c2_cmd_outcome.specs.Left.{state_of}
 use Rattle.c2_cmd_outcome.specs.Reply.{IsFaultOf, IsReplyTo}
 use Rattle.c2_cmd_outcome.specs.declared.reply.Fault.{Fault}
@@ -29,7 +29,10 @@ use Rattle.c2_cmd_collect.specs.Writing.{BuildsCollected}
 use Rattle.c2_cmd_collect.proofs.Answered.{collect_outcome, file_same}
 
 -- what the new file meets is met where one is answered
-met_ok : (hash : Alg → List ℕ → List ℕ) (said : Question → Verdict) (media definition message other : List ℕ) (r : Result Embedded BuildError) → IsMet hash said media definition message other r
+met_ok :
+    (hash : Alg → List ℕ → List ℕ) (said : Question → Verdict) (media definition message other : List ℕ)
+    (r : Result Embedded BuildError)
+    → IsCollectMet hash said media definition message other r
     → OnOk r ((b : NewFile) → IsCollectMade hash said media definition message other (Ok b) → CollectedMeets hash said media definition message other b)
 met_ok hash said media definition message other (Ok x) h = h
 met_ok hash said media definition message other (Err e) h = tt
@@ -38,14 +41,17 @@ met_ok hash said media definition message other (Err e) h = tt
 pub collect_made : {K : Type 0} (written : K → Option (List ℕ)) (spare : K → Option ℕ) (finished : K → Bool) (hash : Alg → List ℕ → List ℕ) (said : Question → Verdict) (media definition message other : List ℕ) (old new : K)
     (r : Result Embedded BuildError) (reply : Result Reply Fault)
     → ((a b : Result NewFile CollectRefusal) → IsCollectMade hash said media definition message other a → IsCollectMade hash said media definition message other b → a ≡ b)
-    → EmbedsCollected written spare finished hash said media definition message other old new r → EndsOut finished old new r
+    → EmbedsCollected written spare finished hash said media definition message other old new r
+    → EndsOut finished old new r
     → IfOk reply (IsReplyTo (build_says embedded_outcome r)) → IfErr reply (IsFaultOf (build_says embedded_outcome r))
     → BuildsCollected hash said media definition message other (state_of written finished old) (state_of written finished new) reply
 collect_made {K} written spare finished hash said media definition message other old new r reply one h ends reports fails = record {
   made = makes_reply written finished (WritesNew file_bytes (ComesWith error_of Is)) (IsEmbedCollectOutcome hash said media definition message other) old new (build_ending r) (build_says embedded_outcome r) reply
       (build_fits embedded_outcome r (λ x. refl)) wrote (build_ends finished old new r ends)
       (collect_outcome Is r one h.answered) reports fails;
-  meets = build_met written finished old new embedded_outcome r reply ends reports (met_ok hash said media definition message other r h.meets);
+  meets =
+      build_met written finished old new embedded_outcome r reply ends reports
+      (met_ok hash said media definition message other r h.meets);
 }
   where
     Is : Result NewFile CollectRefusal → Type 0

@@ -1,8 +1,7 @@
 // The command `embed-collect`.
-ghost use Rattle.std.specs.Prelude.{◌⊎◌, map};
-ghost use Rattle.c2_base.specs.Causes.{Rose};
-ghost use Rattle.c2_base.specs.Source.{ReadsSource};
-ghost use Rattle.c2_build_collect.specs.Answers.{AsksEmbedded, ForEmbedInputs, LeavesBuildUndue, embed_effects};
+ghost use Rattle.std.specs.Prelude.{map};
+ghost use Rattle.c2_build_endings.specs.Sources.{use_of};
+ghost use Rattle.c2_build_collect.specs.Answers.{AsksEmbedded, ForEmbedInputs, LeavesBuildUndue, ReadsSignedPair, embed_effects};
 ghost use Rattle.c2_rules.specs.Asking.{HearsPanel};
 ghost use Rattle.c2_spec.specs.Judges.Panel.{panel_says};
 ghost use Rattle.c2_cmd_outcome.specs.Left.{state_of};
@@ -13,10 +12,8 @@ use c2_base::{Sink, Source};
 use c2_build_collect::embed_collect;
 use c2_cmd_build_replies::embedded_reply;
 use c2_cmd_outcome::{Fault, Reply};
-use c2_collect_spec::a_collected_build_comes_to_one_thing;
 use c2_hash::Hashing;
 use c2_judge::Judge;
-use c2_validate::one_opening;
 use std::alloc::Global;
 
 /// The reply to `embed-collect`: the range of the new store in the new file, once this is whole and finished.
@@ -49,35 +46,17 @@ pub fn reply_to_embed_collect<H: Hashing, A: Source, B: Source, C: Source, D: So
         other.old other.new }
 
     // Whatever the files hold.
-    ensures media { ReadsSource A.len A.known A.faults (IsInputCause
-        (Rose (B.faults definition.old) (B.faults definition.new)
-        ⊎ (Rose (C.faults message.old) (C.faults message.new)
-        ⊎ Rose (D.faults other.old) (D.faults other.new))))
-        media.old media.new result }
-    ensures definition { ReadsSource B.len B.known B.faults (IsInputCause
-        (Rose (A.faults media.old) (A.faults media.new)
-        ⊎ (Rose (C.faults message.old) (C.faults message.new)
-        ⊎ Rose (D.faults other.old) (D.faults other.new))))
-        definition.old definition.new result }
-    ensures message { ReadsSource C.len C.known C.faults (IsInputCause
-        (Rose (A.faults media.old) (A.faults media.new)
-        ⊎ (Rose (B.faults definition.old) (B.faults definition.new)
-        ⊎ Rose (D.faults other.old) (D.faults other.new))))
-        message.old message.new result }
-    ensures other { ReadsSource D.len D.known D.faults (IsInputCause
-        (Rose (A.faults media.old) (A.faults media.new)
-        ⊎ (Rose (B.faults definition.old) (B.faults definition.new)
-        ⊎ Rose (C.faults message.old) (C.faults message.new))))
-        other.old other.new result }
+    ensures sources { ReadsSignedPair IsInputCause
+        (use_of A.len A.known A.faults media.old media.new)
+        (use_of B.len B.known B.faults definition.old definition.new)
+        (use_of C.len C.known C.faults message.old message.new)
+        (use_of D.len D.known D.faults other.old other.new) result }
     ensures ends { EndsBuild K.written K.finished K.faults embed_effects
         out.old out.new result }
     ensures panel { HearsPanel says asked_times judge_faults fault_heard (AsksEmbedded
         H.digest_of (A.known media.old) (B.known definition.old) (C.known message.old)
         (D.known other.old)) judges.old judges.new result }
 {
-    // Only the prover needs these laws.
-    a_collected_build_comes_to_one_thing();
-    one_opening();
     let embedded = embed_collect(
         alloc, hashing, media, definition, message, other, judges, out,
     );

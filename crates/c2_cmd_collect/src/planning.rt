@@ -1,8 +1,7 @@
 // The command `plan-collect`.
-ghost use Rattle.std.specs.Prelude.{◌⊎◌, map, IfOk};
-ghost use Rattle.c2_base.specs.Causes.{Rose};
-ghost use Rattle.c2_base.specs.Source.{ReadsSource};
-ghost use Rattle.c2_build_collect.specs.Answers.{AsksPlanned, ForPlanInputs, LeavesPlanUndue};
+ghost use Rattle.std.specs.Prelude.{map, IfOk};
+ghost use Rattle.c2_build_endings.specs.Sources.{use_of};
+ghost use Rattle.c2_build_collect.specs.Answers.{AsksPlanned, ForPlanInputs, LeavesPlanUndue, ReadsPlannedPair};
 ghost use Rattle.c2_build_collect_base.specs.Grounds.{ground_effects};
 ghost use Rattle.c2_rules.specs.Asking.{HearsPanel};
 ghost use Rattle.c2_spec.specs.Judges.Panel.{panel_says};
@@ -43,18 +42,10 @@ pub fn reply_to_plan_collect<H: Hashing, A: Source, B: Source, D: Source>(
 
     // Whatever the files hold.
     ensures within { IfOk result (IsBuildReply (IsRefusedBy ground_effects) tbs_outcome) }
-    ensures media { ReadsSource A.len A.known A.faults (IsReadingCause
-        (Rose (B.faults definition.old) (B.faults definition.new)
-        ⊎ Rose (D.faults other.old) (D.faults other.new)))
-        media.old media.new result }
-    ensures definition { ReadsSource B.len B.known B.faults (IsReadingCause
-        (Rose (A.faults media.old) (A.faults media.new)
-        ⊎ Rose (D.faults other.old) (D.faults other.new)))
-        definition.old definition.new result }
-    ensures other { ReadsSource D.len D.known D.faults (IsReadingCause
-        (Rose (A.faults media.old) (A.faults media.new)
-        ⊎ Rose (B.faults definition.old) (B.faults definition.new)))
-        other.old other.new result }
+    ensures sources { ReadsPlannedPair IsReadingCause
+        (use_of A.len A.known A.faults media.old media.new)
+        (use_of B.len B.known B.faults definition.old definition.new)
+        (use_of D.len D.known D.faults other.old other.new) result }
     ensures panel { HearsPanel says asked_times judge_faults fault_heard (AsksPlanned
         H.digest_of (A.known media.old) (B.known definition.old) (D.known other.old))
         judges.old judges.new result }

@@ -36,7 +36,6 @@ pub fn reply_to_extract<S: Source, K: Sink>(
     ensures writes { WritesSink K.written unsaid K.faults IsOutputCause out.old out.new result }
     ensures ends { EndsFile K.finished K.faults out.old out.new result }
 {
-    // Only the prover needs this law.
     each_file_is_extracted();
     let extracted = extract(alloc, media, out);
     reply_to_call(alloc, extracted)

@@ -4,7 +4,7 @@ use Rattle.std.specs.Prelude.{IfOk, Ok, Err}
 use Rattle.std.specs.declared.result.Result.{Result}
 use Rattle.c2_new_front_spec.specs.Order.{FrontRefusal}
 use Rattle.c2_new_front_spec.specs.Outcomes.{NewFile}
-use Rattle.c2_build_refusals.specs.Kinds.{ComesAs, ComesTo}
+use Rattle.c2_build_refusals.specs.Kinds.{ComesAs, HasOutcome}
 use Rattle.c2_build_refusals.specs.declared.error.BuildError.{BuildError}
 use Rattle.c2_build_refusals.specs.declared.types.Embedded.{Embedded}
 use Rattle.c2_build_front.specs.Answers.{HasRange, IsRangeOf, file_of}
@@ -22,7 +22,8 @@ use Rattle.c2_cmd_written_spec.proofs.Refused.{ComesWith, one_with, refused_come
 use Rattle.c2_cmd_front.specs.Outcomes.{embed_outcome, file_bytes, file_report, plan_outcome}
 
 -- a value or an error that is answered is what the inputs come to
-answer_comes : {A : Type 0} (Is : Result A FrontRefusal → Type 0) (r : Result A BuildError) → IsAnswerTo Is r → ComesTo (ComesWith error_of Is) r
+answer_comes : {A : Type 0} (Is : Result A FrontRefusal → Type 0) (r : Result A BuildError) → IsAnswerTo Is r
+    → HasOutcome (ComesWith error_of Is) r
 answer_comes Is (Ok a) h = (Ok a, h, refl)
 answer_comes Is (Err e) h = refused_comes error_of Is e h
 
@@ -31,7 +32,8 @@ pub plan_replied : (Is : Result (List ℕ) FrontRefusal → Type 0) (r : Result 
     → IsAnswerTo Is r → IfOk reply (IsReplyTo (build_says tbs_outcome r))
     → IfOk reply (λ x. (s : Result (List ℕ) FrontRefusal) × Is s × (outcome_of x ≡ plan_outcome s))
 plan_replied Is r (Ok x) answers reports =
-    let t : (s : Result (List ℕ) BuildError) × ComesWith error_of Is s × (outcome_of x ≡ result_outcome tbs_outcome s) = build_replied tbs_outcome (ComesWith error_of Is) r (Ok x) (answer_comes Is r answers) reports in
+    let t : (s : Result (List ℕ) BuildError) × ComesWith error_of Is s × (outcome_of x ≡ result_outcome tbs_outcome s) =
+    build_replied tbs_outcome (ComesWith error_of Is) r (Ok x) (answer_comes Is r answers) reports in
     (t.1.0, t.1.1, t.2 ∙ ap (result_outcome tbs_outcome) t.1.2)
 plan_replied Is r (Err f) answers reports = tt
 
@@ -58,5 +60,6 @@ pub front_outcome : (Is : Result NewFile FrontRefusal → Type 0) (r : Result Em
     → (expected : Outcome) → ((s : Result NewFile FrontRefusal) × Is s × (expected ≡ embed_outcome s))
     → IsOutcomeOf (WritesNew file_bytes (ComesWith error_of Is)) (build_ending r) (build_says embedded_outcome r) expected
 front_outcome Is r one answered expected is =
-    build_outcome file_bytes file_report (ComesWith error_of Is) embedded_outcome r (one_with error_of Is one) (range_comes Is r answered) expected
+    build_outcome file_bytes file_report (ComesWith error_of Is) embedded_outcome r (one_with error_of Is one)
+    (range_comes Is r answered) expected
     (with_error error_of is.0, (is.0, is.1, refl), is.2)

@@ -1,2 +1,3 @@
 mod Answered
 mod Making
+pub mod TheLaws

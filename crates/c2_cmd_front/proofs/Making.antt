@@ -11,7 +11,7 @@ use Rattle.c2_build_refusals.specs.Sinks.{EndsOut}
 use Rattle.c2_build_refusals.specs.declared.error.BuildError.{BuildError}
 use Rattle.c2_build_refusals.specs.declared.types.Embedded.{Embedded}
 use Rattle.c2_build_endings.specs.Endings.{build_ending}
-use Rattle.c2_build_front.specs.Answers.{EmbedsFront, IsMet, Writes, file_of}
+use Rattle.c2_build_front.specs.Answers.{EmbedsFront, IsFrontMet, Writes, file_of}
 use Rattle.c2_build_front.specs.Errors.{error_of}
 use Rattle.c2_cmd_outcome.specs.Left.{state_of}
 use Rattle.c2_cmd_outcome.specs.Reply.{IsFaultOf, IsReplyTo}
@@ -27,7 +27,8 @@ use Rattle.c2_cmd_front.specs.Writing.{BuildsFront}
 use Rattle.c2_cmd_front.proofs.Answered.{file_same, front_outcome}
 
 -- what the new file meets is met where one is answered
-met_ok : (hash : Alg → List ℕ → List ℕ) (media definition message : List ℕ) (r : Result Embedded BuildError) → IsMet hash media definition message r
+met_ok : (hash : Alg → List ℕ → List ℕ) (media definition message : List ℕ) (r : Result Embedded BuildError)
+    → IsFrontMet hash media definition message r
     → OnOk r ((b : NewFile) → IsFrontMade hash media definition message (Ok b) → FrontMeets hash media definition message b)
 met_ok hash media definition message (Ok x) h = h
 met_ok hash media definition message (Err e) h = tt
@@ -42,7 +43,9 @@ front_made {K} written spare finished hash media definition message old new r re
   made = makes_reply written finished (WritesNew file_bytes (ComesWith error_of Is)) (IsEmbedFrontOutcome hash media definition message) old new (build_ending r) (build_says embedded_outcome r) reply
       (build_fits embedded_outcome r (λ x. refl)) wrote (build_ends finished old new r ends)
       (front_outcome Is r one h.answered) reports fails;
-  meets = build_met written finished old new embedded_outcome r reply ends reports (met_ok hash media definition message r h.meets);
+  meets =
+      build_met written finished old new embedded_outcome r reply ends reports
+      (met_ok hash media definition message r h.meets);
 }
   where
     Is : Result NewFile FrontRefusal → Type 0

@@ -1,8 +1,7 @@
 // The command `embed-front`.
-ghost use Rattle.std.specs.Prelude.{◌≢◌, ◌⊎◌, ℕ, List, IfOk};
+ghost use Rattle.std.specs.Prelude.{◌≢◌, ℕ, List, IfOk};
 ghost use Rattle.std.specs.Option.{ForSome};
-ghost use Rattle.c2_base.specs.Causes.{Rose};
-ghost use Rattle.c2_base.specs.Source.{ReadsSource};
+ghost use Rattle.c2_build_endings.specs.Sources.{ReadsSigned, use_of};
 ghost use Rattle.c2_build_refusals.specs.Stages.{IsDefinitionTold, IsMessageTold, LeavesUndue};
 ghost use Rattle.c2_build_front.specs.Answers.{embed_effects};
 ghost use Rattle.c2_cmd_outcome.specs.Left.{state_of};
@@ -17,8 +16,6 @@ use c2_cmd_build_replies::embedded_reply;
 use c2_cmd_outcome::types::Answer;
 use c2_cmd_outcome::{Fault, Reply};
 use c2_hash::Hashing;
-use c2_new_front_spec::a_front_comes_to_one_thing;
-use c2_validate::one_opening;
 use std::alloc::Global;
 
 /// The reply to `embed-front`: the range of the new store in the new file, once this is whole and finished.
@@ -47,23 +44,12 @@ pub fn reply_to_embed_front<H: Hashing, A: Source, B: Source, C: Source, K: Sink
     // Whatever the files hold.
     ensures words { IfOk result (λ reply. reply.answer ≢ Answer.Usage) }
     ensures within { IfOk result (IsBuildReply (IsRefusedBy embed_effects) embedded_outcome) }
-    ensures media { ReadsSource A.len A.known A.faults (IsWritingCause
-        (Rose (B.faults definition.old) (B.faults definition.new)
-        ⊎ Rose (C.faults message.old) (C.faults message.new)))
-        media.old media.new result }
-    ensures definition { ReadsSource B.len B.known B.faults (IsWritingCause
-        (Rose (A.faults media.old) (A.faults media.new)
-        ⊎ Rose (C.faults message.old) (C.faults message.new)))
-        definition.old definition.new result }
-    ensures message { ReadsSource C.len C.known C.faults (IsWritingCause
-        (Rose (A.faults media.old) (A.faults media.new)
-        ⊎ Rose (B.faults definition.old) (B.faults definition.new)))
-        message.old message.new result }
+    ensures sources { ReadsSigned IsWritingCause
+        (use_of A.len A.known A.faults media.old media.new)
+        (use_of B.len B.known B.faults definition.old definition.new)
+        (use_of C.len C.known C.faults message.old message.new) result }
     ensures out { WritesOut K.written K.finished K.faults out.old out.new result }
 {
-    // Only the prover needs these laws.
-    a_front_comes_to_one_thing();
-    one_opening();
     let embedded = embed_front(alloc, hashing, media, definition, message, out);
     embedded_reply(alloc, embedded)
 }

@@ -4,8 +4,7 @@ ghost use Rattle.c2_spec.specs.declared.digest.Alg.{Alg};
 ghost use Rattle.c2_cmd_outcome.specs.Outcome.{IsOneOutcome, Outcome};
 ghost use Rattle.c2_cmd_front.specs.Outcomes.{IsEmbedFrontOutcome, IsPlanFrontOutcome};
 
-use c2_new_front_spec::{a_front_comes_to_one_thing, each_front_comes_to_something};
-use c2_validate::{each_file_has_a_check, one_opening};
+use c2_validate::each_file_has_a_check;
 
 /// `plan-front` comes to one outcome at most for what it is handed, and so does `embed-front`.
 pub fn one_front_outcome()
@@ -13,10 +12,7 @@ pub fn one_front_outcome()
         → IsOneOutcome (IsPlanFrontOutcome hash media definition) }
     ensures embed { (hash : Alg → List ℕ → List ℕ) (media definition message : List ℕ)
         → IsOneOutcome (IsEmbedFrontOutcome hash media definition message) }
-{
-    a_front_comes_to_one_thing();
-    one_opening();
-}
+{}
 
 /// `plan-front` comes to an outcome where the media is bytes, and so does `embed-front` where the message is bytes too.
 pub fn each_front_outcome()
@@ -28,5 +24,4 @@ pub fn each_front_outcome()
         → (expected : Outcome) × IsEmbedFrontOutcome hash media definition message expected }
 {
     each_file_has_a_check();
-    each_front_comes_to_something();
 }

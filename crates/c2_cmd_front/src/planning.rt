@@ -1,8 +1,7 @@
 // The command `plan-front`.
 ghost use Rattle.std.specs.Prelude.{◌≡◌, ◌≢◌, ℕ, List, IfOk};
 ghost use Rattle.std.specs.Option.{ForSome};
-ghost use Rattle.c2_base.specs.Causes.{Rose};
-ghost use Rattle.c2_base.specs.Source.{ReadsSource};
+ghost use Rattle.c2_build_endings.specs.Sources.{ReadsPlanned, use_of};
 ghost use Rattle.c2_build_refusals.specs.Stages.{IsDefinitionTold, IsMediaRefused};
 ghost use Rattle.c2_build_front.specs.Answers.{plan_effects};
 ghost use Rattle.c2_cmd_outcome.specs.Reply.{IsSourcesCause, outcome_of};
@@ -37,12 +36,9 @@ pub fn reply_to_plan_front<H: Hashing, A: Source, B: Source>(
     // Whatever the files hold.
     ensures words { IfOk result (λ reply. reply.answer ≢ Answer.Usage) }
     ensures within { IfOk result (IsBuildReply (IsRefusedBy plan_effects) tbs_outcome) }
-    ensures media { ReadsSource A.len A.known A.faults
-        (IsSourcesCause (Rose (B.faults definition.old) (B.faults definition.new)))
-        media.old media.new result }
-    ensures definition { ReadsSource B.len B.known B.faults
-        (IsSourcesCause (Rose (A.faults media.old) (A.faults media.new)))
-        definition.old definition.new result }
+    ensures sources { ReadsPlanned IsSourcesCause
+        (use_of A.len A.known A.faults media.old media.new)
+        (use_of B.len B.known B.faults definition.old definition.new) result }
 {
     let planned = plan_front(alloc, hashing, media, definition);
     planned_reply(alloc, planned)

@@ -36,12 +36,12 @@ status_of answer.NotAccepted = NotAccepted
 status_of answer.StripRefused = StripRefused
 
 -- this holds after every answer but a fault and out of memory
-abbrev pub WithoutFault : Type 0 → Status → Type 0
-WithoutFault claim InputFault = ⊤
-WithoutFault claim OutputFault = ⊤
-WithoutFault claim JudgeFault = ⊤
-WithoutFault claim NoMemory = ⊤
-WithoutFault claim status = claim
+abbrev pub IfAnswered : Type 0 → Status → Type 0
+IfAnswered claim InputFault = ⊤
+IfAnswered claim OutputFault = ⊤
+IfAnswered claim JudgeFault = ⊤
+IfAnswered claim NoMemory = ⊤
+IfAnswered claim status = claim
 
 -- this holds after a fault and out of memory
 abbrev pub WithFault : Type 0 → Status → Type 0

@@ -38,7 +38,7 @@ impl Answer {
     ghost use Rattle.std.specs.Prelude.{◌≡◌};
     ghost use Rattle.c2_cmd_outcome.specs.Status.{status_of};
 
-    /// Its status.
+    /// The status of an answer.
     pub fn status(self) -> Status
         ensures { result ≡ status_of self }
     {

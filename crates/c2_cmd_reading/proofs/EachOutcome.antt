@@ -29,10 +29,15 @@ use Rattle.c2_cmd_outcome.specs.declared.types.Answer.TheVariants as answer
 
 -- what the laws of the crates below say
 pub record Laws : Type 0 where
-  pub answer : (hash : Alg → List ℕ → List ℕ) (said : Question → Verdict) (file : List ℕ) → All (λ b. b < 2 ^ 8) file → (a : Answer) × IsAnswer hash said file a
+  pub answer : (hash : Alg → List ℕ → List ℕ) (said : Question → Verdict) (file : List ℕ) → All (λ b. b < 2 ^ 8) file
+      → (a : Answer) × IsAnswer hash said file a
   pub claim : (m : Manifest) (r : Reading) → IsReading m r → HasClaim m (claim_in r)
-  pub compared : (hash : Alg → List ℕ → List ℕ) (said : Question → Verdict) (first second : List ℕ) (a b : Answer) → IsAnswer hash said first a → IsAnswer hash said second b → (what : Compared) × (text : List ℕ) × IsComparison hash said first second what text
-  pub external : (hash : Alg → List ℕ → List ℕ) (said : Question → Verdict) (file store : List ℕ) → All (λ b. b < 2 ^ 8) file → All (λ b. b < 2 ^ 8) store → (a : External) × IsExternalAnswer hash said file store a
+  pub compared : (hash : Alg → List ℕ → List ℕ) (said : Question → Verdict) (first second : List ℕ) (a b : Answer)
+      → IsAnswer hash said first a → IsAnswer hash said second b
+      → (what : Compared) × (text : List ℕ) × IsComparison hash said first second what text
+  pub external : (hash : Alg → List ℕ → List ℕ) (said : Question → Verdict) (file store : List ℕ)
+      → All (λ b. b < 2 ^ 8) file → All (λ b. b < 2 ^ 8) store
+      → (a : External) × IsExternalAnswer hash said file store a
 
 -- ---- a file is opened, and its manifests are read
 
@@ -43,7 +48,9 @@ HasReadings absent = ⊤
 HasReadings (here start len t) = (rs : List Reading) × AreReadings (manifests_of t) rs
 
 -- where the check of an opened file has an answer, the manifests of its store are read as something
-readings_of : (hash : Alg → List ℕ → List ℕ) (said : Question → Verdict) (file : List ℕ) (what : Opening Tree) (a : Answer) → IsOpenedAnswer hash said file what a → HasReadings what
+readings_of :
+    (hash : Alg → List ℕ → List ℕ) (said : Question → Verdict) (file : List ℕ) (what : Opening Tree) (a : Answer)
+    → IsOpenedAnswer hash said file what a → HasReadings what
 readings_of hash said file (refused reason number) a h = tt
 readings_of hash said file absent a h = tt
 readings_of hash said file (here start len t) a h = (h.0.readings, h.1.reads.each)
@@ -60,7 +67,8 @@ each_opened laws file held =
 each_boxed : Laws → (file : List ℕ) → AreBytes file → (tree : Opening Tree) × IsBoxed file tree
 each_boxed laws file held = let o = each_opened laws file held in go o.0 o.1.0 o.1.1 o.1.2
   where
-    go : (what : Opening Tree) (l : Located) → IsLocated file l → Opens IsManifestStore l what → (tree : Opening Tree) × IsBoxed file tree
+    go : (what : Opening Tree) (l : Located) → IsLocated file l → Opens IsManifestStore l what
+        → (tree : Opening Tree) × IsBoxed file tree
     go what (refused reason number) located opens = (refused reason number, (refused reason number, located, refl))
     go what absent located opens = (absent, (absent, located, refl))
     go what (here start len store) located opens = (opens.0, (here start len store, located, opens.1))
@@ -68,22 +76,27 @@ each_boxed laws file held = let o = each_opened laws file held in go o.0 o.1.0 o
 -- ---- outcomes
 
 -- there is an outcome for whatever a file is opened as, if there is one for each store that is found
-each_report : {A : Type 0} (Is : ℕ → ℕ → A → Outcome → Type 0) (o : Opening A) → ((start len : ℕ) (a : A) → (e : Outcome) × Is start len a e) → (e : Outcome) × Reports Is o e
+each_report : {A : Type 0} (Is : ℕ → ℕ → A → Outcome → Type 0) (o : Opening A)
+    → ((start len : ℕ) (a : A) → (e : Outcome) × Is start len a e) → (e : Outcome) × Reports Is o e
 each_report Is (refused reason number) some = (reports answer.Refused (refused_line reason number), refl)
 each_report Is absent some = (reports answer.NoStore none_line, refl)
 each_report Is (here start len a) some = some start len a
 
 -- a command that reads manifests has an outcome for every file of bytes, if it has one for every store
-each_media : Laws → (P : Tree → Outcome → Type 0) → ((t : Tree) (rs : List Reading) → AreReadings (manifests_of t) rs → (e : Outcome) × P t e) → (file : List ℕ) → AreBytes file → (e : Outcome) × IsMediaOutcome P file e
+each_media : Laws → (P : Tree → Outcome → Type 0)
+    → ((t : Tree) (rs : List Reading) → AreReadings (manifests_of t) rs → (e : Outcome) × P t e) → (file : List ℕ)
+    → AreBytes file → (e : Outcome) × IsMediaOutcome P file e
 each_media laws P over file held = let o = each_opened laws file held in go o.0 o.1 o.2
   where
     go : (what : Opening Tree) → IsOpened file what → HasReadings what → (e : Outcome) × IsMediaOutcome P file e
-    go (refused reason number) is read = (reports answer.Refused (refused_line reason number), (refused reason number, is, refl))
+    go (refused reason number) is read =
+        (reports answer.Refused (refused_line reason number), (refused reason number, is, refl))
     go absent is read = (reports answer.NoStore none_line, (absent, is, refl))
     go (here start len t) is read = let e = over t read.0 read.1 in (e.0, (here start len t, is, e.1))
 
 -- manifests that are read have a list of claims, with an entry for each manifest
-each_claims : Laws → (ms : List Manifest) (rs : List Reading) → AreReadings ms rs → (cs : List (Option Claim)) × HaveClaims ms cs
+each_claims : Laws → (ms : List Manifest) (rs : List Reading) → AreReadings ms rs
+    → (cs : List (Option Claim)) × HaveClaims ms cs
 each_claims laws [] [] reads = ([], tt)
 each_claims laws [] (r ∷ rs) reads = absurd reads
 each_claims laws (m ∷ ms) [] reads = absurd reads
@@ -94,25 +107,30 @@ each_shown : Laws → (t : Tree) (rs : List Reading) → AreReadings (manifests_
 each_shown laws t rs reads = let cs = each_claims laws (manifests_of t) rs reads in (shown t cs.0, (cs.0, cs.1, refl))
 
 -- `questions` has an outcome over every box tree whose manifests are read, whatever the panel says
-each_questioned : (said : Question → Verdict) (t : Tree) (rs : List Reading) → AreReadings (manifests_of t) rs → (e : Outcome) × IsQuestioned said t e
+each_questioned : (said : Question → Verdict) (t : Tree) (rs : List Reading) → AreReadings (manifests_of t) rs
+    → (e : Outcome) × IsQuestioned said t e
 each_questioned said t rs reads = (questioned said rs, (rs, reads, refl))
 
 -- `digest` has an outcome for every file of bytes
-each_digest : Laws → (hash : List ℕ → List ℕ) (file : List ℕ) → AreBytes file → (e : Outcome) × IsDigestOutcome hash file e
+each_digest : Laws → (hash : List ℕ → List ℕ) (file : List ℕ) → AreBytes file
+    → (e : Outcome) × IsDigestOutcome hash file e
 each_digest laws hash file held =
     let o = each_opened laws file held in
-    let e = each_report (IsDigested hash file) o.1.0 (λ start len store. (reports answer.Done (digest_line start len (hash (taken_out start len file))), refl)) in
+    let e =
+    each_report (IsDigested hash file) o.1.0
+    (λ start len store. (reports answer.Done (digest_line start len (hash (taken_out start len file))), refl)) in
     (e.0, (o.1.0, o.1.1, e.1))
 
--- so has `list`
+-- `list` has an outcome for every file of bytes
 each_list : Laws → (file : List ℕ) → AreBytes file → (e : Outcome) × IsListOutcome file e
 each_list laws file held =
     let b = each_boxed laws file held in
     let e = each_report IsListing b.0 (λ start len t. (reports answer.Done (listing t), refl)) in
     (e.0, (b.0, b.1, e.1))
 
--- and `compare`, for two files
-each_compared : Laws → (hash : Alg → List ℕ → List ℕ) (said : Question → Verdict) (first second : List ℕ) → AreBytes first → AreBytes second → (e : Outcome) × IsCompareOutcome hash said first second e
+-- `compare` has an outcome over each two files of bytes
+each_compared : Laws → (hash : Alg → List ℕ → List ℕ) (said : Question → Verdict) (first second : List ℕ)
+    → AreBytes first → AreBytes second → (e : Outcome) × IsCompareOutcome hash said first second e
 each_compared laws hash said first second held other =
     let a = laws.answer hash said first held in
     let b = laws.answer hash said second other in
@@ -138,7 +156,8 @@ pub each_compare_asks : ((hash : Alg → List ℕ → List ℕ) (said : Question
     → ((hash : Alg → List ℕ → List ℕ) (said : Question → Verdict) (file : List ℕ) → All (λ b. b < 2 ^ 8) file → (qs : List Question) × CheckAsks hash said file qs)
     → ((hash : Alg → List ℕ → List ℕ) (said : Question → Verdict) (first second : List ℕ) (a : Answer) (ps qs : List Question) → IsAnswer hash said first a → CheckAsks hash said first ps
     → CheckAsks hash said second qs → (all : List Question) × CompareAsks hash said first second all)
-    → (hash : Alg → List ℕ → List ℕ) (said : Question → Verdict) (first second : List ℕ) → AreBytes first → AreBytes second → (qs : List Question) × CompareAsks hash said first second qs
+    → (hash : Alg → List ℕ → List ℕ) (said : Question → Verdict) (first second : List ℕ) → AreBytes first
+    → AreBytes second → (qs : List Question) × CompareAsks hash said first second qs
 each_compare_asks answer asks compared hash said first second held other =
     let a = answer hash said first held in
     let ps = asks hash said first held in

@@ -19,7 +19,8 @@ use Rattle.c2_cmd_reading.specs.Reading.{compare_fault}
 -- ---- want of memory
 
 -- what holds of want of memory holds of a result that fails for nothing else
-pub memory_only : {T : Type 0} (P : Fault → Type 0) (r : Result T Fault) → P Memory → IfErr r (λ e. e ≡ Memory) → IfErr r P
+pub memory_only : {T : Type 0} (P : Fault → Type 0) (r : Result T Fault) → P Memory → IfErr r (λ e. e ≡ Memory)
+    → IfErr r P
 memory_only P (Ok x) h memory = tt
 memory_only P (Err e) h memory = subst P (sym memory) h
 
@@ -29,15 +30,16 @@ unbroken r memory = memory_only (λ (f : Fault). fault_heard f ≢ broken) r (λ
 
 -- ---- a call that only asks
 
--- it has not asked all when it fails
+-- a call that only asks has not asked all when it fails
 pub not_all : (f : Fault) → CausedBy ⊥ ⊥ ⊤ f → fault_heard f ≢ all
 not_all Input cause = absurd cause
 not_all Output cause = absurd cause
 not_all Judge cause = λ same. cc (same)
 not_all Memory cause = λ same. cc (same)
 
--- its faults have their cause in a call that reads besides
-pub asking_cause : {T : Type 0} (before now : ℕ) (r : Result T Fault) → IfErr r (CausedBy ⊥ ⊥ ⊤) → IfErr r (IsPanelCause before now)
+-- the faults of a call that only asks have their cause in a call that reads besides
+pub asking_cause : {T : Type 0} (before now : ℕ) (r : Result T Fault) → IfErr r (CausedBy ⊥ ⊥ ⊤)
+    → IfErr r (IsPanelCause before now)
 asking_cause before now (Ok x) h = tt
 asking_cause before now (Err e) h = by e h
   where
@@ -49,14 +51,14 @@ asking_cause before now (Err e) h = by e h
 
 -- ---- a call that only reads
 
--- it has asked nobody
+-- a call that only reads has asked nobody
 pub nobody_asked : (before now : ℕ) (f : Fault) → IsMediaCause before now f → part ≡ fault_heard f
 nobody_asked before now Input h = refl
 nobody_asked before now Output h = absurd h
 nobody_asked before now Judge h = absurd h
 nobody_asked before now Memory h = refl
 
--- its faults have their cause in a call that asks besides
+-- the faults of a call that only reads have their cause in a call that asks besides
 pub media_cause : (before now : ℕ) (f : Fault) → IsMediaCause before now f → IsPanelCause before now f
 media_cause before now Input h = h
 media_cause before now Output h = absurd h
@@ -75,19 +77,23 @@ check_heard e f is = subst (λ (x : Fault). checked.validate_heard e ≡ fault_h
     by NoMemory = refl
 
 -- the cause of an error of the check of a file
-pub check_cause : (before now : ℕ) (e : ValidateError) (f : Fault) → f ≡ fault_of e → checked.IsReadCause before now e → IsPanelCause before now f
+pub check_cause : (before now : ℕ) (e : ValidateError) (f : Fault) → f ≡ fault_of e
+    → checked.IsCheckReadCause before now e → IsPanelCause before now f
 check_cause before now e f is h = subst (IsPanelCause before now) (sym is) (by e h)
   where
-    by : (e : ValidateError) → checked.IsReadCause before now e → IsPanelCause before now (fault_of e)
+    by : (e : ValidateError) → checked.IsCheckReadCause before now e → IsPanelCause before now (fault_of e)
     by ReadFault h = h
     by JudgeFault h = tt
     by NoMemory h = tt
 
--- of the check of a file with an external store
-pub external_cause : (other_before other_now before now : ℕ) (e : ValidateError) (f : Fault) → f ≡ fault_of e → external.IsSourceCause other_before other_now before now e → IsReadingCause (Rose other_before other_now) before now f
+-- the cause of an error of the check of a file with an external store
+pub external_cause : (other_before other_now before now : ℕ) (e : ValidateError) (f : Fault) → f ≡ fault_of e
+    → external.IsSourceCause other_before other_now before now e
+    → IsReadingCause (Rose other_before other_now) before now f
 external_cause other_before other_now before now e f is h = subst (IsReadingCause (Rose other_before other_now) before now) (sym is) (by e h)
   where
-    by : (e : ValidateError) → external.IsSourceCause other_before other_now before now e → IsReadingCause (Rose other_before other_now) before now (fault_of e)
+    by : (e : ValidateError) → external.IsSourceCause other_before other_now before now e
+        → IsReadingCause (Rose other_before other_now) before now (fault_of e)
     by ReadFault h = h
     by JudgeFault h = tt
     by NoMemory h = tt
@@ -105,27 +111,32 @@ comparison_heard e f is = subst (λ (x : Fault). compare_heard e ≡ fault_heard
     by compare.NoMemory = refl
 
 -- the cause of an error of it, of one of the two sources
-pub comparison_cause : (other_before other_now before now : ℕ) (e : CompareError) (f : Fault) → f ≡ compare_fault e → compared.IsReadCause other_before other_now before now e → IsInputCause (Rose other_before other_now) before now f
+pub comparison_cause : (other_before other_now before now : ℕ) (e : CompareError) (f : Fault) → f ≡ compare_fault e
+    → compared.IsReadCauseBeside other_before other_now before now e
+    → IsInputCause (Rose other_before other_now) before now f
 comparison_cause other_before other_now before now e f is h = subst (IsInputCause (Rose other_before other_now) before now) (sym is) (by e h)
   where
-    by : (e : CompareError) → compared.IsReadCause other_before other_now before now e → IsInputCause (Rose other_before other_now) before now (compare_fault e)
+    by : (e : CompareError) → compared.IsReadCauseBeside other_before other_now before now e
+        → IsInputCause (Rose other_before other_now) before now (compare_fault e)
     by compare.ReadFault h = h
     by compare.WriteFault h = tt
     by compare.JudgeFault h = tt
     by compare.NoMemory h = tt
 
--- and of the report
-pub report_cause : (before now : ℕ) (e : CompareError) (f : Fault) → f ≡ compare_fault e → compared.IsWriteCause before now e → IsOutputCause before now f
+-- the cause of an error of a comparison, as one of the report
+pub report_cause : (before now : ℕ) (e : CompareError) (f : Fault) → f ≡ compare_fault e
+    → compared.IsReportCause before now e → IsOutputCause before now f
 report_cause before now e f is h = subst (IsOutputCause before now) (sym is) (by e h)
   where
-    by : (e : CompareError) → compared.IsWriteCause before now e → IsOutputCause before now (compare_fault e)
+    by : (e : CompareError) → compared.IsReportCause before now e → IsOutputCause before now (compare_fault e)
     by compare.ReadFault h = tt
     by compare.WriteFault h = h
     by compare.JudgeFault h = tt
     by compare.NoMemory h = tt
 
 -- a judge fails the command where one failed the comparison
-pub judge_failed : (claim : Type 0) (e : CompareError) (f : Fault) → f ≡ compare_fault e → (e ≡ compare.JudgeFault → claim) → f ≡ Judge → claim
+pub judge_failed : (claim : Type 0) (e : CompareError) (f : Fault) → f ≡ compare_fault e
+    → (e ≡ compare.JudgeFault → claim) → f ≡ Judge → claim
 judge_failed claim e f is h judge = by e (sym is ∙ judge) h
   where
     by : (e : CompareError) → compare_fault e ≡ Judge → (e ≡ compare.JudgeFault → claim) → claim

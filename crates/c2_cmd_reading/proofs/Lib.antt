@@ -7,3 +7,4 @@ mod Listing
 mod OneOutcome
 mod Preparing
 mod Replying
+pub mod TheLaws

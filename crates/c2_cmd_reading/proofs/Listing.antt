@@ -1,7 +1,5 @@
 -- What `list` reports of a store that was found.
-use Rattle.std.proofs.Common.{◌≡◌, refl, sym, ◌∙◌, ap, subst, ◌⊎◌, inl, inr, List, ℕ, Option, Some, None, Ok}
-use Rattle.std.specs.Option.{ok_or}
-use Rattle.std.specs.declared.result.Result.{Result}
+use Rattle.std.proofs.Common.{◌≡◌, refl, sym, ◌∙◌, ap, subst, ◌⊎◌, inl, inr, List, ℕ, Option, Some}
 use Rattle.c2_base.specs.declared.media.Found.{Found}
 use Rattle.c2_spec.specs.Jumbf.Faults.{JumbfFault}
 use Rattle.c2_spec.specs.Jumbf.Tree.{Tree, SpellsTree}
@@ -17,22 +15,21 @@ use Rattle.c2_cmd_outcome.specs.Reply.{outcome_of}
 use Rattle.c2_cmd_outcome.specs.declared.reply.Reply.{Reply}
 use Rattle.c2_cmd_outcome.specs.declared.types.Answer.TheVariants as answer
 
--- where there is a value, it is this
-pub given : {A E : Type 0} (o : Option A) (e : E) (x : A) → ◌≡◌ {A = Result A E} (Ok x) (ok_or o e) → o ≡ Some x
-given None e x h = absurd (cc (h))
-given (Some y) e x h = cc (h)
-
 -- an error that refuses something is not that memory ran out
-faulty : (bytes : List ℕ) (e : JumbfError) (r : Refusal) → boxes_refusal e ≡ Some r → (e ≡ boxes.NoMemory) ⊎ JumbfFault bytes e → JumbfFault bytes e
+faulty : (bytes : List ℕ) (e : JumbfError) (r : Refusal) → boxes_refusal e ≡ Some r
+    → (e ≡ boxes.NoMemory) ⊎ JumbfFault bytes e → JumbfFault bytes e
 faulty bytes e r refuses (inl memory) = absurd (let both = sym refuses ∙ ap boxes_refusal memory in cc (both))
 faulty bytes e r refuses (inr fault) = fault
 
 -- bytes that spell a box tree
-pub lists_tree : (f : Found) (bytes : List ℕ) (t : Tree) (reply : Reply) → bytes ≡ f.store → SpellsTree bytes t → outcome_of reply ≡ reports answer.Done (listing t) → ListsStore f reply
-lists_tree f bytes t reply same spells out = (here f.start f.length t, (subst (λ (l : List ℕ). SpellsTree l t) same spells, refl), out)
+pub lists_tree : (f : Found) (bytes : List ℕ) (t : Tree) (reply : Reply) → bytes ≡ f.store → SpellsTree bytes t
+    → outcome_of reply ≡ reports answer.Done (listing t) → ListsStore f reply
+lists_tree f bytes t reply same spells out =
+    (here f.start f.length t, (subst (λ (l : List ℕ). SpellsTree l t) same spells, refl), out)
 
 -- bytes that spell none
-pub lists_refused : (f : Found) (bytes : List ℕ) (e : JumbfError) (o : Option Refusal) (r : Refusal) (reply : Reply) → bytes ≡ f.store → (e ≡ boxes.NoMemory) ⊎ JumbfFault bytes e → o ≡ boxes_refusal e → o ≡ Some r
+pub lists_refused : (f : Found) (bytes : List ℕ) (e : JumbfError) (o : Option Refusal) (r : Refusal) (reply : Reply)
+    → bytes ≡ f.store → (e ≡ boxes.NoMemory) ⊎ JumbfFault bytes e → o ≡ boxes_refusal e → o ≡ Some r
     → outcome_of reply ≡ reports answer.Refused (refused_line r.reason r.number) → ListsStore f reply
 lists_refused f bytes e o r reply same fault is some out =
     let refuses : boxes_refusal e ≡ Some r = sym is ∙ some in

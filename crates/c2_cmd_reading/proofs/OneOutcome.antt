@@ -1,5 +1,10 @@
 -- A command that reads comes to one outcome.
-use Rattle.std.proofs.Common.{◌≡◌, sym, ◌∙◌, ap, subst, ℕ, List, Option, Some, None}
+use Rattle.c2_container.proofs.TheLaws.{each_media_file_is_located_once}
+use Rattle.c2_read_manifests.proofs.TheLaws.{one_list_of_claims, one_reading_manifests}
+use Rattle.c2_opening.proofs.TheLaws.{one_opening_file}
+use Rattle.c2_validate.proofs.TheLaws.{one_check_answer, one_external_check_answer}
+use Rattle.c2_compare_spec.proofs.TheLaws.{one_comparison_answer}
+use Rattle.std.proofs.Common.{◌≡◌, sym, ◌∙◌, ap, ℕ, List, Option, Some, None}
 use Rattle.c2_base.specs.declared.values.Question.{Question}
 use Rattle.c2_spec.specs.declared.claim.Claim.{Claim}
 use Rattle.c2_spec.specs.declared.digest.Alg.{Alg}
@@ -24,6 +29,11 @@ use Rattle.c2_cmd_reading.specs.Outcomes.{IsCompareOutcome, IsDigested, IsListOu
 use Rattle.c2_validate.specs.External.{IsExternalAnswer}
 use Rattle.c2_validate.specs.declared.external.External.{External}
 use Rattle.c2_cmd_reading.specs.Laws.{OneReadingOutcome}
+use Rattle.c2_lemmas.proofs.Numbers.{one_after}
+use Rattle.c2_rules.proofs.OneAnswer.{one_opens}
+use Rattle.c2_spec.proofs.JumbfNoFault.{no_fault}
+use Rattle.c2_spec.proofs.JumbfOneFault.{first_once}
+use Rattle.c2_spec.proofs.JumbfOneTree.{spells_once}
 
 -- what the laws of the crates below say
 pub record Laws : Type 0 where
@@ -34,13 +44,30 @@ pub record Laws : Type 0 where
   pub claims : (ms : List Manifest) (cs ds : List (Option Claim)) → HaveClaims ms cs → HaveClaims ms ds → cs ≡ ds
   pub readings : (ms : List Manifest) (rs ss : List Reading) → AreReadings ms rs → AreReadings ms ss → rs ≡ ss
   pub opened : (file : List ℕ) (a b : Opening Tree) → IsOpened file a → IsOpened file b → a ≡ b
-  pub answer : (hash : Alg → List ℕ → List ℕ) (said : Question → Verdict) (file : List ℕ) (a b : Checked) → IsAnswer hash said file a → IsAnswer hash said file b → a ≡ b
-  pub compared : (hash : Alg → List ℕ → List ℕ) (said : Question → Verdict) (first second : List ℕ) (a b : Compared) (t u : List ℕ) → IsComparison hash said first second a t → IsComparison hash said first second b u → (a ≡ b) × (t ≡ u)
-  pub external : (hash : Alg → List ℕ → List ℕ) (said : Question → Verdict) (file store : List ℕ) (a b : External) → IsExternalAnswer hash said file store a → IsExternalAnswer hash said file store b → a ≡ b
+  pub answer : (hash : Alg → List ℕ → List ℕ) (said : Question → Verdict) (file : List ℕ) (a b : Checked)
+      → IsAnswer hash said file a → IsAnswer hash said file b → a ≡ b
+  pub compared :
+      (hash : Alg → List ℕ → List ℕ) (said : Question → Verdict) (first second : List ℕ) (a b : Compared) (t u : List ℕ)
+      → IsComparison hash said first second a t → IsComparison hash said first second b u → (a ≡ b) × (t ≡ u)
+  pub external : (hash : Alg → List ℕ → List ℕ) (said : Question → Verdict) (file store : List ℕ) (a b : External)
+      → IsExternalAnswer hash said file store a → IsExternalAnswer hash said file store b → a ≡ b
 
--- where the first value is one, and so is each that follows from it, the second is one
-one_after : {A B : Type 0} (First : A → Type 0) (Next : A → B → Type 0) → ((a b : A) → First a → First b → a ≡ b) → ((a : A) (x y : B) → Next a x → Next a y → x ≡ y) → (x y : B) → (a : A) × First a × Next a x → (b : A) × First b × Next b y → x ≡ y
-one_after {A} {B} First Next first next x y h k = next h.0 x y h.2 (subst (λ (a : A). Next a y) (first k.0 h.0 k.1 h.1) k.2)
+-- they hold
+pub these_laws : Laws
+these_laws =
+    record {
+      located = each_media_file_is_located_once;
+      apart = no_fault;
+      tree = spells_once;
+      fault = first_once;
+      claims = one_list_of_claims;
+      readings = one_reading_manifests;
+      opened = one_opening_file;
+      answer = one_check_answer;
+      compared =
+          λ hash said first second. one_comparison_answer hash said first second (one_opening_file first) (one_opening_file second);
+      external = one_external_check_answer;
+    }
 
 -- ---- openings
 
@@ -49,65 +76,81 @@ abbrev opening_of : Option Refusal → Opening Tree
 opening_of None = absent
 opening_of (Some r) = refused_by r
 
--- what was located is opened as one thing at most, if a store in its range is
-one_opens : {A B : Type 0} (Is : ℕ → ℕ → A → Opening B → Type 0) → ((start len : ℕ) (a : A) (x y : Opening B) → Is start len a x → Is start len a y → x ≡ y) → (o : Opening A) (x y : Opening B) → Opens Is o x → Opens Is o y → x ≡ y
-one_opens Is once (refused reason number) x y h k = h ∙ sym k
-one_opens Is once absent x y h k = h ∙ sym k
-one_opens Is once (here start len a) x y h k = once start len a x y h k
-
 -- the bytes of a store are one box tree at most, or are refused for one reason, never both
-one_box_tree : Laws → (start len : ℕ) (store : List ℕ) (x y : Opening Tree) → IsBoxTree start len store x → IsBoxTree start len store y → x ≡ y
-one_box_tree laws start len store (refused r n) (refused q m) h k = ap opening_of (sym h.2 ∙ ap boxes_refusal (laws.fault store h.0 k.0 h.1 k.1) ∙ k.2)
-one_box_tree laws start len store (refused r n) absent h k = absurd k
-one_box_tree laws start len store (refused r n) (here s l t) h k = absurd (laws.apart store t h.0 k.0 h.1)
-one_box_tree laws start len store absent y h k = absurd h
-one_box_tree laws start len store (here s l t) (refused q m) h k = absurd (laws.apart store t k.0 h.0 k.1)
-one_box_tree laws start len store (here s l t) absent h k = absurd k
-one_box_tree laws start len store (here s l t) (here p m u) h k = h.1 ∙ ap (here start len) (laws.tree store t u h.0 k.0) ∙ sym k.1
+one_box_tree : (start len : ℕ) (store : List ℕ) (x y : Opening Tree) → IsBoxTree start len store x
+    → IsBoxTree start len store y → x ≡ y
+one_box_tree start len store (refused r n) (refused q m) h k =
+    ap opening_of (sym h.2 ∙ ap boxes_refusal (first_once store h.0 k.0 h.1 k.1) ∙ k.2)
+one_box_tree start len store (refused r n) absent h k = absurd k
+one_box_tree start len store (refused r n) (here s l t) h k = absurd (no_fault store t h.0 k.0 h.1)
+one_box_tree start len store absent y h k = absurd h
+one_box_tree start len store (here s l t) (refused q m) h k = absurd (no_fault store t k.0 h.0 k.1)
+one_box_tree start len store (here s l t) absent h k = absurd k
+one_box_tree start len store (here s l t) (here p m u) h k =
+    h.1 ∙ ap (here start len) (spells_once store t u h.0 k.0) ∙ sym k.1
 
 -- a file is opened in one way at most: as a box tree, as refused for a reason, or as without a store
-one_boxed : Laws → (file : List ℕ) (x y : Opening Tree) → IsBoxed file x → IsBoxed file y → x ≡ y
-one_boxed laws file x y h k = one_after (IsLocated file) (Opens IsBoxTree) (laws.located file) (one_opens IsBoxTree (one_box_tree laws)) x y h k
+one_boxed : (file : List ℕ) (x y : Opening Tree) → IsBoxed file x → IsBoxed file y → x ≡ y
+one_boxed file x y h k =
+    one_after (IsLocated file) (Opens IsBoxTree) (each_media_file_is_located_once file)
+    (one_opens IsBoxTree one_box_tree) x y h k
 
 -- ---- outcomes
 
 -- what was opened has one outcome at most, if a store in its range has
-one_report : {A : Type 0} (Is : ℕ → ℕ → A → Outcome → Type 0) → ((start len : ℕ) (a : A) (x y : Outcome) → Is start len a x → Is start len a y → x ≡ y) → (o : Opening A) (x y : Outcome) → Reports Is o x → Reports Is o y → x ≡ y
+one_report : {A : Type 0} (Is : ℕ → ℕ → A → Outcome → Type 0)
+    → ((start len : ℕ) (a : A) (x y : Outcome) → Is start len a x → Is start len a y → x ≡ y)
+    → (o : Opening A) (x y : Outcome) → Reports Is o x → Reports Is o y → x ≡ y
 one_report Is once (refused reason number) x y h k = h ∙ sym k
 one_report Is once absent x y h k = h ∙ sym k
 one_report Is once (here start len a) x y h k = once start len a x y h k
 
 -- `show` has one outcome at most over a box tree
-one_shown : Laws → (t : Tree) (x y : Outcome) → IsShown t x → IsShown t y → x ≡ y
-one_shown laws t x y h k = one_after (HaveClaims (manifests_of t)) (λ claims e. e ≡ shown t claims) (laws.claims (manifests_of t)) (λ claims a b p q. p ∙ sym q) x y h k
+one_shown : (t : Tree) (x y : Outcome) → IsShown t x → IsShown t y → x ≡ y
+one_shown t x y h k =
+    one_after (HaveClaims (manifests_of t)) (λ claims e. e ≡ shown t claims) (one_list_of_claims (manifests_of t))
+    (λ claims a b p q. p ∙ sym q) x y h k
 
 -- `questions` has one outcome at most over a box tree, by what the panel says
-one_questioned : Laws → (said : Question → Verdict) (t : Tree) (x y : Outcome) → IsQuestioned said t x → IsQuestioned said t y → x ≡ y
-one_questioned laws said t x y h k = one_after (AreReadings (manifests_of t)) (λ rs e. e ≡ questioned said rs) (laws.readings (manifests_of t)) (λ rs a b p q. p ∙ sym q) x y h k
+one_questioned : (said : Question → Verdict) (t : Tree) (x y : Outcome) → IsQuestioned said t x → IsQuestioned said t y
+    → x ≡ y
+one_questioned said t x y h k =
+    one_after (AreReadings (manifests_of t)) (λ rs e. e ≡ questioned said rs) (one_reading_manifests (manifests_of t))
+    (λ rs a b p q. p ∙ sym q) x y h k
 
 -- a command that reads manifests has one outcome at most for a file, if it has for a box tree
-one_media : Laws → (P : Tree → Outcome → Type 0) → ((t : Tree) (x y : Outcome) → P t x → P t y → x ≡ y) → (file : List ℕ) → IsOneOutcome (IsMediaOutcome P file)
-one_media laws P once file x y h k = one_after (IsOpened file) (Reports (λ start len t e. P t e)) (laws.opened file) (one_report (λ start len t e. P t e) (λ start len t. once t)) x y h k
+one_media : (P : Tree → Outcome → Type 0) → ((t : Tree) (x y : Outcome) → P t x → P t y → x ≡ y) → (file : List ℕ)
+    → IsOneOutcome (IsMediaOutcome P file)
+one_media P once file x y h k =
+    one_after (IsOpened file) (Reports (λ start len t e. P t e)) (one_opening_file file)
+    (one_report (λ start len t e. P t e) (λ start len t. once t)) x y h k
 
 -- two files are compared to one outcome at most
-pub one_compared : (hash : Alg → List ℕ → List ℕ) (said : Question → Verdict) (first second : List ℕ) → ((a b : Compared) (t u : List ℕ) → IsComparison hash said first second a t → IsComparison hash said first second b u → (a ≡ b) × (t ≡ u))
+pub one_compared : (hash : Alg → List ℕ → List ℕ) (said : Question → Verdict) (first second : List ℕ)
+    → ((a b : Compared) (t u : List ℕ) → IsComparison hash said first second a t → IsComparison hash said first second b u → (a ≡ b) × (t ≡ u))
     → IsOneOutcome (IsCompareOutcome hash said first second)
 one_compared hash said first second once x y h k =
     let one = once h.0 k.0 h.1 k.1 h.2 k.2 in
     h.3 ∙ ap (λ (what : Compared). compare_outcome what h.1) one.0 ∙ ap (compare_outcome k.0) one.1 ∙ sym k.3
 
 -- a list of boxes has one outcome at most, by the file
-pub one_list : Laws → (file : List ℕ) → IsOneOutcome (IsListOutcome file)
-one_list laws file x y h k = one_after (IsBoxed file) (Reports IsListing) (one_boxed laws file) (one_report IsListing (λ start len t a b p q. p ∙ sym q)) x y h k
+pub one_list : (file : List ℕ) → IsOneOutcome (IsListOutcome file)
+one_list file x y h k =
+    one_after (IsBoxed file) (Reports IsListing) (one_boxed file)
+    (one_report IsListing (λ start len t a b p q. p ∙ sym q)) x y h k
 
 -- each command that reads has one outcome at most
-pub one_outcome : Laws → OneReadingOutcome
-one_outcome laws = record {
-  digest = λ hash file x y h k. one_after (IsLocated file) (Reports (IsDigested hash file)) (laws.located file) (one_report (IsDigested hash file) (λ start len store a b p q. p ∙ sym q)) x y h k;
-  list = one_list laws;
-  show = λ file x y h k. one_media laws IsShown (one_shown laws) file x y h k;
-  questions = λ said file x y h k. one_media laws (IsQuestioned said) (one_questioned laws said) file x y h k;
-  validate = λ hash said file x y h k. one_after (IsAnswer hash said file) (λ found e. e ≡ answered found) (laws.answer hash said file) (λ found a b p q. p ∙ sym q) x y h k;
-  compare = λ hash said first second x y h k. one_compared hash said first second (laws.compared hash said first second) x y h k;
-  external = λ hash said file store x y h k. one_after (IsExternalAnswer hash said file store) (λ a e. e ≡ external_outcome a) (laws.external hash said file store) (λ a c d p q. p ∙ sym q) x y h k;
+pub one_outcome : OneReadingOutcome
+one_outcome = record {
+  digest =
+      λ hash file x y h k. one_after (IsLocated file) (Reports (IsDigested hash file)) (each_media_file_is_located_once file) (one_report (IsDigested hash file) (λ start len store a b p q. p ∙ sym q)) x y h k;
+  list = one_list;
+  show = λ file x y h k. one_media IsShown one_shown file x y h k;
+  questions = λ said file x y h k. one_media (IsQuestioned said) (one_questioned said) file x y h k;
+  validate =
+      λ hash said file x y h k. one_after (IsAnswer hash said file) (λ found e. e ≡ answered found) (one_check_answer hash said file) (λ found a b p q. p ∙ sym q) x y h k;
+  compare =
+      λ hash said first second x y h k. one_compared hash said first second (these_laws.compared hash said first second) x y h k;
+  external =
+      λ hash said file store x y h k. one_after (IsExternalAnswer hash said file store) (λ a e. e ≡ external_outcome a) (one_external_check_answer hash said file store) (λ a c d p q. p ∙ sym q) x y h k;
 }

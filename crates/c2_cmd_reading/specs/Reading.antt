@@ -120,7 +120,7 @@ abbrev pub HasNoUsage : Prepared → Type 0
 HasNoUsage (prepared.Reply reply) = reply.answer ≢ answer.Usage
 HasNoUsage (prepared.Ask asked) = ⊤
 
--- of these questions those before the rest were asked, and no judge failed
+-- the first of these questions were asked, up to the rest, and no judge failed
 pub record HasAskedBefore {J : Type 0} (says : J → Question → Verdict) (times faults : J → ℕ) (all rest : List Question) (old new : Vec J Global) : Type 0 where
   pub front : List Question
   pub split : all ≡ front ++ rest

@@ -2,12 +2,12 @@
 ghost use Rattle.std.specs.Prelude.{◌≡◌, ◌≢◌, ℕ, List, [], map, IfErr, IfOk};
 ghost use Rattle.std.specs.Option.{ForSome};
 ghost use Rattle.c2_base.specs.Causes.{Rose};
-ghost use Rattle.c2_base.specs.Sink.{WritesSink};
 ghost use Rattle.c2_base.specs.Source.{IsKnownWhereDue, ReadsSource};
 ghost use Rattle.c2_compare.specs.Comparing.{AsksCompared, IsNotAccepted};
 ghost use Rattle.c2_spec.specs.Judges.Panel.{panel_says};
 ghost use Rattle.c2_rules.specs.Asking.{HearsPanel};
-ghost use Rattle.c2_cmd_outcome.specs.Reply.{Begins, IsInputCause, IsOutputCause, fault_heard, outcome_of};
+ghost use Rattle.c2_cmd_outcome.specs.Reply.{Begins, IsInputCause, fault_heard, outcome_of};
+ghost use Rattle.c2_cmd_reading.specs.Left.{BeginsReport};
 ghost use Rattle.c2_cmd_reading.specs.Outcomes.{IsCompareOutcome, compare_outcome};
 ghost use Rattle.c2_cmd_reading.specs.Reading.{compare_fault};
 
@@ -15,11 +15,9 @@ use c2_base::{Sink, Source};
 use c2_cmd_outcome::types::Answer;
 use c2_cmd_outcome::{Fault, Reply};
 use c2_compare::{CompareError, Compared, compare};
-use c2_compare_spec::one_comparison;
 use c2_hash::Hashing;
 use c2_judge::Judge;
 use c2_texts::{different_line, not_accepted_line, same_line};
-use c2_validate::one_opening;
 use std::alloc::Global;
 
 /// The reply to `compare`. Evidence is written to the report while it is read, and then the reply is empty.
@@ -51,16 +49,11 @@ pub fn reply_to_compare<H: Hashing, A: Source, B: Source, W: Sink>(
     ensures not_due { let said = panel_says (map says judges.old.items) in
         ForSome (A.known media.old)
         (λ a. IsNotAccepted H.digest_of said a → second.new ≡ second.old) }
-    ensures report { WritesSink W.written W.finished W.faults IsOutputCause report.old report.new
-        result }
-    ensures judged { IfErr result (λ e. e ≡ Fault.Judge → report.new ≡ report.old) }
+    ensures report { BeginsReport W.written W.finished W.faults report.old report.new result }
     ensures panel { HearsPanel says asked_times judge_faults fault_heard
         (AsksCompared H.digest_of (A.known media.old) (B.known second.old))
         judges.old judges.new result }
 {
-    // Only the prover needs these laws.
-    one_comparison();
-    one_opening();
     // Matched and not handed up by `?`: who was asked depends on which fault it is.
     match compare(alloc, hashing, media, second, judges, report) {
         Ok(what) => reply_to_compared(alloc, &what),

@@ -14,10 +14,10 @@ use std::alloc::Global;
 /// The media of a command that reads.
 #[derive(Drop)]
 pub enum Stored {
-    /// It has this store.
+    /// The media has this store.
     Here(Found),
 
-    /// It has none, or is refused: this is the reply.
+    /// The media has no store, or is refused: this is the reply.
     Reply(Reply),
 }
 

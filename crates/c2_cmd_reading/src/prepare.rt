@@ -40,7 +40,7 @@ pub fn asked_label(asked: &Asked) -> &str
     asked.label.as_str()
 }
 
-/// Its question.
+/// The question that is asked of a manifest, where it has one.
 pub fn asked_question(asked: &Asked) -> &Option<Question>
     ensures { result.now ≡ asked.now.question }
 {

@@ -16,7 +16,6 @@ use c2_cmd_outcome::types::Answer;
 use c2_cmd_outcome::{Fault, Reply};
 use c2_judge::{Judge, JudgeFailed, ask_panel, question_id};
 use c2_texts::{no_question_line, question_line};
-use c2_validate::one_check;
 use std::alloc::Global;
 
 /// The reply to `questions`. `Input` and `Judge` come only where the media or a judge failed in this call, and `Memory` where memory
@@ -37,8 +36,6 @@ pub fn reply_to_questions<S: Source>(
         (AsksKnown (S.known media.old) (λ file said. AreQuestions file))
         judges.old judges.new result }
 {
-    // Only the prover needs this law.
-    one_check();
     // Matched and not handed up by `?`, here and below: each way out has clauses of its own.
     let prepared = match prepare(alloc, media) {
         Ok(prepared) => prepared,

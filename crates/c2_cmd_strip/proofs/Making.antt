@@ -1,10 +1,11 @@
 -- What `strip` replies and writes, by the call below it.
+use Rattle.c2_strip.proofs.TheLaws.{each_file_is_stripped_once}
 use Rattle.std.proofs.Common.{◌≡◌, ◌≢◌, refl, sym, ap, ◌∙◌, subst, ℕ, List, [], unwrap_or}
 use Rattle.std.specs.Prelude.{IfErr, IfOk, OnOk, Ok, Err}
 use Rattle.std.specs.declared.result.Result.{Result}
 use Rattle.c2_strip.specs.Answers as strips
 use Rattle.c2_strip.specs.Answers.{IsStripped}
-use Rattle.c2_strip.specs.Stripping.{StripsTo, left_of}
+use Rattle.c2_strip.specs.Stripping.{left_of}
 use Rattle.c2_strip.specs.declared.error.StripError.{StripError}
 use Rattle.c2_strip.specs.declared.error.StripError.TheVariants as error
 use Rattle.c2_strip.specs.declared.error.Stripped.{Stripped}
@@ -18,10 +19,6 @@ use Rattle.c2_cmd_written_spec.proofs.Calls.{CausedIn, FitsEnding, FitsNew, IsOu
 use Rattle.c2_cmd_strip.specs.Outcomes.{IsStripOutcome, IsStripReply, strip_file, strip_report}
 use Rattle.c2_cmd_strip.specs.Faults.{strip_says}
 
--- a file comes to one thing at most without its store
-abbrev pub OneStripped : Type 0
-OneStripped = (file : List ℕ) (a b : Stripped) → StripsTo file a → StripsTo file b → a ≡ b
-
 -- what the call came to fits how it ended
 pub strip_fits : (r : Result Stripped StripError) → FitsEnding (strips.ending_of r) (strip_says r)
 strip_fits (Ok (Done range)) = refl
@@ -32,7 +29,7 @@ strip_fits (Err error.ReadFault) = refl
 strip_fits (Err error.WriteFault) = refl
 strip_fits (Err error.NoMemory) = λ e. cc (e)
 
--- it never says that the words fit no command
+-- the call never says that the words fit no command
 pub strip_words : (r : Result Stripped StripError) → IfOk (strip_says r) (λ o. o.answer ≢ answer.Usage)
 strip_words (Ok (Done range)) = λ e. cc (e)
 strip_words (Ok NoStore) = λ e. cc (e)
@@ -40,16 +37,18 @@ strip_words (Ok (Refused e)) = λ e. cc (e)
 strip_words (Ok (Middle at)) = λ e. cc (e)
 strip_words (Err e) = tt
 
--- what it tells of the source
-pub strip_reads : (before now : ℕ) (r : Result Stripped StripError) → OnOk r (now ≡ before) → IfErr r (strips.IsReadCause before now)
+-- what the call tells of the source
+pub strip_reads : (before now : ℕ) (r : Result Stripped StripError) → OnOk r (now ≡ before)
+    → IfErr r (strips.IsStripReadCause before now)
     → CausedIn IsCopyingCause before now (strip_says r)
 strip_reads before now (Ok a) quiet cause = quiet
 strip_reads before now (Err error.ReadFault) quiet cause = cause
 strip_reads before now (Err error.WriteFault) quiet cause = tt
 strip_reads before now (Err error.NoMemory) quiet cause = tt
 
--- what it tells of the sink
-pub strip_writes : (before now : ℕ) (r : Result Stripped StripError) → OnOk r (now ≡ before) → IfErr r (strips.IsWriteCause before now)
+-- what the call tells of the sink
+pub strip_writes : (before now : ℕ) (r : Result Stripped StripError) → OnOk r (now ≡ before)
+    → IfErr r (strips.IsStripWriteCause before now)
     → CausedIn IsOutputCause before now (strip_says r)
 strip_writes before now (Ok a) quiet cause = quiet
 strip_writes before now (Err error.ReadFault) quiet cause = tt
@@ -57,7 +56,8 @@ strip_writes before now (Err error.WriteFault) quiet cause = cause
 strip_writes before now (Err error.NoMemory) quiet cause = tt
 
 -- a reply to it reports an answer that the file can have
-pub strip_within : (len : ℕ) (r : Result Stripped StripError) (reply : Result Reply Fault) → IfOk r (strips.IsAnswerOf len)
+pub strip_within : (len : ℕ) (r : Result Stripped StripError) (reply : Result Reply Fault)
+    → IfOk r (strips.IsAnswerOf len)
     → IfOk reply (IsReplyTo (strip_says r)) → IfOk reply (IsStripReply len)
 strip_within len (Ok a) (Ok reply) within reports = (a, within, reports)
 strip_within len (Err e) (Ok reply) within reports = absurd reports
@@ -80,21 +80,26 @@ strip_new file (Refused e) = refl
 strip_new file (Middle at) = refl
 
 -- the outcome of `strip` is what the call came to
-pub strip_outcome : OneStripped → (file : List ℕ) (r : Result Stripped StripError) → IfOk r (IsStripped file)
+pub strip_outcome : (file : List ℕ) (r : Result Stripped StripError) → IfOk r (IsStripped file)
     → (expected : Outcome) → IsStripOutcome file expected
     → IsOutcomeOf (strips.Writes file) (strips.ending_of r) (strip_says r) expected
-strip_outcome one file r answered expected is =
-    outcome_of_call (strips.Writes file) (strips.ending_of r) (strip_says r) expected (strip_file file is.0) (strip_report is.0) is.2 (said r answered)
+strip_outcome file r answered expected is =
+    outcome_of_call (strips.Writes file) (strips.ending_of r) (strip_says r) expected (strip_file file is.0)
+    (strip_report is.0) is.2 (said r answered)
     (is.0, is.1, sym (left_is file is.0))
-    (λ bytes w. w.2 ∙ ap (left_of file) (one file w.0 is.0 w.1 is.1) ∙ left_is file is.0)
+    (λ bytes w. w.2 ∙ ap (left_of file) (each_file_is_stripped_once file w.0 is.0 w.1 is.1) ∙ left_is file is.0)
     (new r answered)
   where
-    said : (r : Result Stripped StripError) → IfOk r (IsStripped file) → IfOk (strip_says r) (λ o. o ≡ strip_report is.0)
+    said : (r : Result Stripped StripError) → IfOk r (IsStripped file)
+        → IfOk (strip_says r) (λ o. o ≡ strip_report is.0)
     said (Ok a) answered = ap strip_report (sym (answered.only is.0 is.1))
     said (Err e) answered = tt
 
-    new : (r : Result Stripped StripError) → IfOk r (IsStripped file) → FitsNew (strips.ending_of r) (strip_says r) (strip_file file is.0)
-    new (Ok a) answered = subst (λ (x : Stripped). FitsNew (strips.ending_of (Ok x)) (strip_says (Ok x)) (strip_file file is.0)) (answered.only is.0 is.1) (strip_new file is.0)
+    new : (r : Result Stripped StripError) → IfOk r (IsStripped file)
+        → FitsNew (strips.ending_of r) (strip_says r) (strip_file file is.0)
+    new (Ok a) answered =
+        subst (λ (x : Stripped). FitsNew (strips.ending_of (Ok x)) (strip_says (Ok x)) (strip_file file is.0))
+        (answered.only is.0 is.1) (strip_new file is.0)
     new (Err error.ReadFault) answered = tt
     new (Err error.WriteFault) answered = tt
     new (Err error.NoMemory) answered = tt

@@ -14,7 +14,7 @@ use c2_base::{MediaError, Sink, Source};
 use c2_cmd_outcome::types::Answer;
 use c2_cmd_outcome::{Fault, Reply, none_reply, refused_reply};
 use c2_spec::Refusal;
-use c2_strip::{StripError, Stripped, each_file_is_stripped, strip};
+use c2_strip::{StripError, Stripped, strip};
 use std::alloc::Global;
 
 /// The reply to `strip`: the range that was left out of the new file, once this is whole and finished.
@@ -38,8 +38,6 @@ pub fn reply_to_strip<S: Source, K: Sink>(
     ensures writes { WritesSink K.written unsaid K.faults IsOutputCause out.old out.new result }
     ensures ends { EndsFile K.finished K.faults out.old out.new result }
 {
-    // Only the prover needs this law.
-    each_file_is_stripped();
     // Matched and not handed up by `?`: this way out has clauses of its own.
     let mut buf = match vec![in alloc; 0; PIECE_LEN] {
         Ok(buf) => buf,

@@ -13,9 +13,10 @@ use Rattle.c2_cmd_outcome.specs.declared.reply.Fault.{Fault}
 use Rattle.c2_cmd_outcome.specs.declared.reply.Fault.TheVariants.{Input, Output, Memory}
 use Rattle.c2_cmd_outcome.specs.declared.reply.Reply.{Reply}
 use Rattle.c2_cmd_outcome.specs.declared.types.Answer.TheVariants as answer
-use Rattle.c2_cmd_outcome.proofs.Replying.{always_ok, each_ok}
+use Rattle.c2_cmd_outcome.proofs.Replying.{each_ok}
 use Rattle.c2_cmd_written_spec.specs.Written.{with_file}
 use Rattle.c2_cmd_written_spec.proofs.Taking.{FitsAnswer, FitsFile, IsEndOf, file_end, stands_with, takes_file, takes_none}
+use Rattle.c2_lemmas.proofs.Results.{on_ok}
 
 -- ---- what is left of a source and of a sink
 
@@ -34,14 +35,16 @@ quiet_reply IsCause before now (Err f) (Err e) caused reports = tt
 
 -- where there is no reply, that has the cause of the fault, or memory ran out
 cause_reply : (IsCause : ℕ → ℕ → Fault → Type 0) (before now : ℕ) (what : Result Outcome Fault) (r : Result Reply Fault)
-    → IsCause before now Memory → CausedIn IsCause before now what → IfErr r (IsFaultOf what) → IfErr r (IsCause before now)
+    → IsCause before now Memory → CausedIn IsCause before now what → IfErr r (IsFaultOf what)
+    → IfErr r (IsCause before now)
 cause_reply IsCause before now what (Ok reply) free caused fails = tt
 cause_reply IsCause before now (Ok o) (Err e) free caused fails = subst (IsCause before now) (sym fails) free
 cause_reply IsCause before now (Err f) (Err e) free caused fails = subst (IsCause before now) (sym fails) caused
 
 -- what is left of a source of the call
 pub reads_reply : {S : Type 0} (len : S → ℕ) (known : S → Option (List ℕ)) (faults : S → ℕ) (IsCause : ℕ → ℕ → Fault → Type 0) (old new : S) (what : Result Outcome Fault) (r : Result Reply Fault)
-    → IsCause (faults old) (faults new) Memory → StaysSource len known faults old new → CausedIn IsCause (faults old) (faults new) what
+    → IsCause (faults old) (faults new) Memory → StaysSource len known faults old new
+    → CausedIn IsCause (faults old) (faults new) what
     → IfOk r (IsReplyTo what) → IfErr r (IsFaultOf what) → ReadsSource len known faults IsCause old new r
 reads_reply len known faults IsCause old new what r free stays caused reports fails = record {
   stays = stays;
@@ -51,7 +54,8 @@ reads_reply len known faults IsCause old new what r free stays caused reports fa
 
 -- what is left of a sink of the call
 pub writes_reply : {K : Type 0} (written : K → Option (List ℕ)) (finished : K → Bool) (faults : K → ℕ) (IsCause : ℕ → ℕ → Fault → Type 0) (old new : K) (what : Result Outcome Fault) (r : Result Reply Fault)
-    → IsCause (faults old) (faults new) Memory → StaysSink written finished faults old new → CausedIn IsCause (faults old) (faults new) what
+    → IsCause (faults old) (faults new) Memory → StaysSink written finished faults old new
+    → CausedIn IsCause (faults old) (faults new) what
     → IfOk r (IsReplyTo what) → IfErr r (IsFaultOf what) → WritesSink written finished faults IsCause old new r
 writes_reply written finished faults IsCause old new what r free stays caused reports fails = record {
   stays = stays;
@@ -78,7 +82,8 @@ err_same : (f g : Fault) → f ≡ g → ◌≡◌ {A = Result Reply Fault} (Err
 err_same f g is = subst (λ (x : Fault). ◌≡◌ {A = Result Reply Fault} (Err f) (Err x)) is refl
 
 -- the reply ends as the call did
-reply_end : (e : Ending) (what : Result Outcome Fault) (r : Result Reply Fault) → FitsEnding e what → IfOk r (IsReplyTo what)
+reply_end : (e : Ending) (what : Result Outcome Fault) (r : Result Reply Fault) → FitsEnding e what
+    → IfOk r (IsReplyTo what)
     → IfErr r (IsFaultOf what) → IsEndOf e r
 reply_end complete (Ok o) r fits reports fails = fails
 reply_end complete (Err f) r fits reports fails = absurd fits
@@ -93,12 +98,17 @@ reply_end untouched (Ok o) (Err e) fits reports fails = λ output. let both = sy
 reply_end untouched (Err f) (Err e) fits reports fails = λ output. fits (sym fails ∙ output)
 
 -- the reply says that it is done where the file is whole, and not where it is untouched
-reply_answer : (e : Ending) (what : Result Outcome Fault) (r : Result Reply Fault) → FitsEnding e what → IfOk r (IsReplyTo what) → FitsAnswer e r
-reply_answer complete (Ok o) r fits reports = each_ok (IsReplyTo (Ok o)) (λ (reply : Reply). reply.answer ≡ answer.Done) r (λ reply same. ap (λ (x : Outcome). x.answer) same ∙ fits) reports
+reply_answer : (e : Ending) (what : Result Outcome Fault) (r : Result Reply Fault) → FitsEnding e what
+    → IfOk r (IsReplyTo what) → FitsAnswer e r
+reply_answer complete (Ok o) r fits reports =
+    each_ok (IsReplyTo (Ok o)) (λ (reply : Reply). reply.answer ≡ answer.Done) r
+    (λ reply same. ap (λ (x : Outcome). x.answer) same ∙ fits) reports
 reply_answer complete (Err f) r fits reports = absurd fits
 reply_answer read_fault what r fits reports = tt
 reply_answer write_fault what r fits reports = tt
-reply_answer untouched (Ok o) r fits reports = each_ok (IsReplyTo (Ok o)) (λ (reply : Reply). reply.answer ≢ answer.Done) r (λ reply same done. fits (sym (ap (λ (x : Outcome). x.answer) same) ∙ done)) reports
+reply_answer untouched (Ok o) r fits reports =
+    each_ok (IsReplyTo (Ok o)) (λ (reply : Reply). reply.answer ≢ answer.Done) r
+    (λ reply same done. fits (sym (ap (λ (x : Outcome). x.answer) same) ∙ done)) reports
 reply_answer untouched (Err f) (Ok reply) fits reports = absurd reports
 reply_answer untouched (Err f) (Err e) fits reports = tt
 
@@ -117,7 +127,8 @@ pub ends_reply : {K : Type 0} (finished : K → Bool) (faults : K → ℕ) (old 
     → FitsEnding e what → EndsSink finished old new e → CausedIn IsOutputCause (faults old) (faults new) what
     → IfOk r (IsReplyTo what) → IfErr r (IsFaultOf what) → EndsFile finished faults old new r
 ends_reply finished faults old new e what r fits ends caused reports fails = record {
-  ends = file_end finished old new e r ends (reply_end e what r fits reports fails) (reply_answer e what r fits reports);
+  ends =
+      file_end finished old new e r ends (reply_end e what r fits reports fails) (reply_answer e what r fits reports);
   unfinished = reply_open finished faults old new e what fits ends caused;
 }
 
@@ -140,7 +151,8 @@ pub record IsOutcomeOf (Writes : List ℕ → Type 0) (e : Ending) (what : Resul
 -- an outcome that is this one with this file, of which the call writes just the bytes
 pub outcome_of_call : (Writes : List ℕ → Type 0) (e : Ending) (what : Result Outcome Fault) (expected : Outcome) (file : Option (List ℕ)) (o : Outcome)
     → expected ≡ with_file file o → IfOk what (λ x. x ≡ o) → Writes (unwrap_or file [])
-    → ((bytes : List ℕ) → Writes bytes → bytes ≡ unwrap_or file []) → FitsNew e what file → IsOutcomeOf Writes e what expected
+    → ((bytes : List ℕ) → Writes bytes → bytes ≡ unwrap_or file []) → FitsNew e what file
+    → IsOutcomeOf Writes e what expected
 outcome_of_call Writes e what expected file o is same writes only fits =
     let own : expected.file ≡ file = ap (λ (x : Outcome). x.file) is in record {
       reports = reported what same;
@@ -150,16 +162,19 @@ outcome_of_call Writes e what expected file o is same writes only fits =
     }
   where
     reported : (w : Result Outcome Fault) → IfOk w (λ x. x ≡ o) → IfOk w (λ x. expected ≡ with_file expected.file x)
-    reported (Ok x) same = is ∙ ap (λ (f : Option (List ℕ)). with_file f o) (sym (ap (λ (y : Outcome). y.file) is)) ∙ ap (with_file expected.file) (sym same)
+    reported (Ok x) same =
+        is ∙ ap (λ (f : Option (List ℕ)). with_file f o) (sym (ap (λ (y : Outcome). y.file) is))
+        ∙ ap (with_file expected.file) (sym same)
     reported (Err f) same = tt
 
 -- what the reply says of the file fits its end
-reply_file : (e : Ending) (what : Result Outcome Fault) (file : Option (List ℕ)) (r : Result Reply Fault) → FitsEnding e what
+reply_file : (e : Ending) (what : Result Outcome Fault) (file : Option (List ℕ)) (r : Result Reply Fault)
+    → FitsEnding e what
     → FitsNew e what file → IfOk r (IsReplyTo what) → FitsFile e file r
 reply_file complete what file r fits new reports = new
 reply_file read_fault what file r fits new reports = tt
 reply_file write_fault what file r fits new reports = tt
-reply_file untouched (Ok o) file r fits new reports = always_ok (file ≡ None) r new
+reply_file untouched (Ok o) file r fits new reports = on_ok (file ≡ None) r new
 reply_file untouched (Err f) file (Ok reply) fits new reports = absurd reports
 reply_file untouched (Err f) file (Err e) fits new reports = tt
 
@@ -187,7 +202,9 @@ makes_reply written finished Writes IsExpected old new e what r fits wrote ends 
 -- a reply says that the words fit no command only where what the call came to does
 pub words_reply : (what : Result Outcome Fault) (r : Result Reply Fault) → IfOk what (λ o. o.answer ≢ answer.Usage)
     → IfOk r (IsReplyTo what) → IfOk r (λ reply. reply.answer ≢ answer.Usage)
-words_reply (Ok o) r fits reports = each_ok (IsReplyTo (Ok o)) (λ (reply : Reply). reply.answer ≢ answer.Usage) r (λ reply same usage. fits (sym (ap (λ (x : Outcome). x.answer) same) ∙ usage)) reports
+words_reply (Ok o) r fits reports =
+    each_ok (IsReplyTo (Ok o)) (λ (reply : Reply). reply.answer ≢ answer.Usage) r
+    (λ reply same usage. fits (sym (ap (λ (x : Outcome). x.answer) same) ∙ usage)) reports
 words_reply (Err f) (Ok reply) fits reports = absurd reports
 words_reply (Err f) (Err e) fits reports = tt
 
@@ -196,7 +213,9 @@ words_reply (Err f) (Err e) fits reports = tt
 -- nothing is written
 pub made_none : {K : Type 0} (written : K → Option (List ℕ)) (finished : K → Bool) (IsExpected : Outcome → Type 0) (sink : K)
     → MakesFile IsExpected (state_of written finished sink) (state_of written finished sink) (Err Memory)
-made_none written finished IsExpected sink = record { stands = λ expected is. tt; takes = λ expected is. takes_none written finished expected.file sink sink Memory refl (λ e. cc (e)) }
+made_none written finished IsExpected sink =
+    record
+    { stands = λ expected is. tt; takes = λ expected is. takes_none written finished expected.file sink sink Memory refl (λ e. cc (e)) }
 
 -- the sink isn't finished
 pub ends_none : {K : Type 0} (finished : K → Bool) (faults : K → ℕ) (sink : K)

@@ -41,7 +41,8 @@ source_left len known faults report does Other old new r reply h reports fails =
 
 -- what is left of the sink of a build that writes a new file
 pub sink_left : {K A : Type 0} (written : K → Option (List ℕ)) (finished : K → Bool) (faults : K → ℕ) (report : A → Outcome) (old new : K) (r : Result A BuildError) (reply : Result Reply Fault)
-    → ((a : A) → (report a).answer ≡ answer.Done) → WritesSink written unsaid faults IsOutCause old new r → EndsOut finished old new r
+    → ((a : A) → (report a).answer ≡ answer.Done) → WritesSink written unsaid faults IsOutCause old new r
+    → EndsOut finished old new r
     → IfOk reply (IsReplyTo (build_says report r)) → IfErr reply (IsFaultOf (build_says report r))
     → WritesOut written finished faults old new reply
 sink_left written finished faults report old new r reply done h ends reports fails = record {
@@ -63,7 +64,8 @@ written_as written finished P Q old new untouched to back h = tt
 -- ---- what is replied
 
 -- a reply to a build says that something is built, or refused: so it isn't that the words fit no command
-pub built_words : {A : Type 0} (IsRefusal : BuildError → Type 0) (report : A → Outcome) (r : Result Reply Fault) → ((a : A) → (report a).answer ≡ answer.Done)
+pub built_words : {A : Type 0} (IsRefusal : BuildError → Type 0) (report : A → Outcome) (r : Result Reply Fault)
+    → ((a : A) → (report a).answer ≡ answer.Done)
     → IfOk r (IsBuildReply IsRefusal report) → IfOk r (λ reply. reply.answer ≢ answer.Usage)
 built_words {A} IsRefusal report (Ok reply) done h = by h.0 h.2
   where
@@ -81,24 +83,35 @@ memory_unbroken (Err e) h = λ breaks. let both = sym (ap fault_heard h) ∙ bre
 
 module _ {J : Type 0} (says : J → Question → Verdict) (times faults : J → ℕ) (Asks : (Question → Verdict) → List Question → Type 0) (old new : Vec J Global) where
   -- a panel that was asked all, before whatever is answered where no judge failed
-  heard_all : (k : ErrorKind) (r : Result Reply Fault) → heard_of k ≡ all → IfErr r (λ e. e ≡ Memory) → HearsPanel {T = ⊤} says times faults heard_of Asks old new (Err k) → HearsPanel says times faults fault_heard Asks old new r
+  heard_all : (k : ErrorKind) (r : Result Reply Fault) → heard_of k ≡ all → IfErr r (λ e. e ≡ Memory)
+      → HearsPanel {T = ⊤} says times faults heard_of Asks old new (Err k)
+      → HearsPanel says times faults fault_heard Asks old new r
   heard_all k r is memory h =
       hears_later {T = ⊤} {U = Reply} says times faults heard_of fault_heard Asks Asks old new tt r (memory_unbroken r memory) (λ qs asks. asks) (record {
-        stays = record { same = h.stays.same; asked_later = h.stays.asked_later; faults_later = h.stays.faults_later; ok = subst (IsJudgeCause (map faults old.items) (map faults new.items)) is h.cause };
+        stays =
+            record
+            { same = h.stays.same; asked_later = h.stays.asked_later; faults_later = h.stays.faults_later; ok = subst (IsJudgeCause (map faults old.items) (map faults new.items)) is h.cause };
         len = h.len;
         cause = tt;
-        asked = λ qs asks. subst (λ (w : Heard). HasHeardSoFar w qs (judges_of says times faults old.items) (judges_of says times faults new.items)) is (h.asked qs asks);
+        asked =
+            λ qs asks. subst (λ (w : Heard). HasHeardSoFar w qs (judges_of says times faults old.items) (judges_of says times faults new.items)) is (h.asked qs asks);
         unasked = h.unasked;
       })
 
   -- a panel that was asked as far as a fault tells
-  heard_part : (k : ErrorKind) (f : Fault) (r : Result Reply Fault) → heard_of k ≡ fault_heard f → IfOk r (IsReplyTo (Err f)) → IfErr r (IsFaultOf (Err f)) → HearsPanel {T = ⊤} says times faults heard_of Asks old new (Err k)
+  heard_part : (k : ErrorKind) (f : Fault) (r : Result Reply Fault) → heard_of k ≡ fault_heard f
+      → IfOk r (IsReplyTo (Err f)) → IfErr r (IsFaultOf (Err f))
+      → HearsPanel {T = ⊤} says times faults heard_of Asks old new (Err k)
       → HearsPanel says times faults fault_heard Asks old new r
   heard_part k f (Ok reply) is reports fails h = absurd reports
-  heard_part k f (Err e) is reports fails h = hears_error {T = ⊤} {U = Reply} says times faults heard_of fault_heard Asks Asks old new k e (is ∙ ap fault_heard (sym fails)) (λ qs asks. asks) h
+  heard_part k f (Err e) is reports fails h =
+      hears_error {T = ⊤} {U = Reply} says times faults heard_of fault_heard Asks Asks old new k e
+      (is ∙ ap fault_heard (sym fails)) (λ qs asks. asks) h
 
   -- what is said of an error of this kind tells how far the panel was asked
-  kind_panel : (k : ErrorKind) (o : Outcome) (r : Result Reply Fault) → IfOk r (IsReplyTo (unless_fault (kind_fault k) o)) → IfErr r (IsFaultOf (unless_fault (kind_fault k) o)) → HearsPanel {T = ⊤} says times faults heard_of Asks old new (Err k)
+  kind_panel : (k : ErrorKind) (o : Outcome) (r : Result Reply Fault)
+      → IfOk r (IsReplyTo (unless_fault (kind_fault k) o)) → IfErr r (IsFaultOf (unless_fault (kind_fault k) o))
+      → HearsPanel {T = ⊤} says times faults heard_of Asks old new (Err k)
       → HearsPanel says times faults fault_heard Asks old new r
   kind_panel kind.refusal o r reports fails h = heard_all kind.refusal r refl fails h
   kind_panel kind.message_refusal o r reports fails h = heard_all kind.message_refusal r refl fails h
@@ -111,8 +124,13 @@ module _ {J : Type 0} (says : J → Question → Verdict) (times faults : J → 
   kind_panel kind.no_memory o r reports fails h = heard_part kind.no_memory _ r refl reports fails h
 
   -- the reply to a build leaves the judges as the build did
-  pub panel_left : {A : Type 0} (report : A → Outcome) (r : Result A BuildError) (reply : Result Reply Fault) → HearsPanel says times faults build_heard Asks old new r
-      → IfOk reply (IsReplyTo (build_says report r)) → IfErr reply (IsFaultOf (build_says report r)) → HearsPanel says times faults fault_heard Asks old new reply
-  panel_left report (Ok a) reply h reports fails = hears_later says times faults build_heard fault_heard Asks Asks old new a reply (memory_unbroken reply fails) (λ qs asks. asks) h
+  pub panel_left : {A : Type 0} (report : A → Outcome) (r : Result A BuildError) (reply : Result Reply Fault)
+      → HearsPanel says times faults build_heard Asks old new r
+      → IfOk reply (IsReplyTo (build_says report r)) → IfErr reply (IsFaultOf (build_says report r))
+      → HearsPanel says times faults fault_heard Asks old new reply
+  panel_left report (Ok a) reply h reports fails =
+      hears_later says times faults build_heard fault_heard Asks Asks old new a reply (memory_unbroken reply fails)
+      (λ qs asks. asks) h
   panel_left {A} report (Err e) reply h reports fails =
-      kind_panel (kind_of e) (refused_build e) reply reports fails (hears_error {T = A} {U = ⊤} says times faults build_heard heard_of Asks Asks old new e (kind_of e) refl (λ qs asks. asks) h)
+      kind_panel (kind_of e) (refused_build e) reply reports fails
+      (hears_error {T = A} {U = ⊤} says times faults build_heard heard_of Asks Asks old new e (kind_of e) refl (λ qs asks. asks) h)

@@ -1,5 +1,5 @@
 -- What a command leaves of the file that it writes, by how the call ended that wrote it.
-use Rattle.std.proofs.Common.{◌≡◌, ◌≢◌, refl, sym, ap, ◌∙◌, subst, inl, inr, ℕ, zero, suc, Bool, true, List, [], take, Option, Some, None, unwrap_or}
+use Rattle.std.proofs.Common.{◌≡◌, ◌≢◌, refl, sym, ap, ◌∙◌, subst, inl, inr, ℕ, Bool, true, List, [], Option, Some, None, unwrap_or}
 use Rattle.std.specs.Prelude.{⊤, IfErr, IfOk, IsSome, OnOk, Ok, Err}
 use Rattle.std.specs.declared.result.Result.{Result}
 use Rattle.std.proofs.lemmas.Bool.{false≢true}
@@ -13,8 +13,10 @@ use Rattle.c2_cmd_outcome.specs.declared.reply.Fault.{Fault}
 use Rattle.c2_cmd_outcome.specs.declared.reply.Fault.TheVariants.{Input, Output, Judge, Memory}
 use Rattle.c2_cmd_outcome.specs.declared.reply.Reply.{Reply}
 use Rattle.c2_cmd_outcome.specs.declared.types.Answer.TheVariants as answer
-use Rattle.c2_cmd_outcome.proofs.Replying.{each_ok, nothing_written, then_nothing}
+use Rattle.c2_cmd_outcome.proofs.Replying.{each_ok, nothing_written}
 use Rattle.c2_cmd_written_spec.specs.Written.{with_file}
+use Rattle.c2_base.proofs.Written.{then_nothing}
+use Rattle.c2_lemmas.proofs.Lists.{take_none}
 
 -- ---- by the ending of the call
 
@@ -42,11 +44,6 @@ FitsAnswer untouched r = IfOk r (λ reply. reply.answer ≢ answer.Done)
 
 -- ---- what was written
 
--- a prefix of nothing
-no_take : (n : ℕ) → take {A = ℕ} n [] ≡ []
-no_take zero = refl
-no_take (suc n) = refl
-
 module _ {K : Type 0} (written : K → Option (List ℕ)) (finished : K → Bool) where
   -- a sink that is as it was
   still : (old new : K) → new ≡ old → state_of written finished new ≡ state_of written finished old
@@ -56,14 +53,19 @@ module _ {K : Type 0} (written : K → Option (List ℕ)) (finished : K → Bool
   nothing_begun : (old new : K) → copying.Begins written finished [] old new
       → state_of written finished new ≡ state_of written finished old
   nothing_begun old new h =
-      let text : written new ≡ written old = h.prefix.1 ∙ ap (then_written (written old)) (no_take h.prefix.0) ∙ sym (then_nothing (written old)) in
-      let first : state_of written finished new ≡ record { written = written old; finished = finished new } = ap (λ (w : Option (List ℕ)). record { written = w; finished = finished new }) text in
-      let then : record { written = written old; finished = finished new } ≡ state_of written finished old = ap (λ (f : Bool). record { written = written old; finished = f }) h.unfinished in
+      let text : written new ≡ written old =
+      h.prefix.1 ∙ ap (then_written (written old)) (take_none h.prefix.0) ∙ sym (then_nothing (written old)) in
+      let first : state_of written finished new ≡ record { written = written old; finished = finished new } =
+      ap (λ (w : Option (List ℕ)). record { written = w; finished = finished new }) text in
+      let then : record { written = written old; finished = finished new } ≡ state_of written finished old =
+      ap (λ (f : Bool). record { written = written old; finished = f }) h.unfinished in
       first ∙ then
 
   -- a sink that is as it was has begun with any bytes
   begun_none : (bytes : List ℕ) (old new : K) → new ≡ old → copying.Begins written finished bytes old new
-  begun_none bytes old new same = subst (copying.Begins written finished bytes old) (sym same) (record { prefix = nothing_written (written old) bytes; unfinished = refl })
+  begun_none bytes old new same =
+      subst (copying.Begins written finished bytes old) (sym same)
+      (record { prefix = nothing_written (written old) bytes; unfinished = refl })
 
   -- a file that was begun when a source failed
   takes_input : (file : Option (List ℕ)) (old new : K) → copying.Begins written finished (unwrap_or file []) old new
@@ -95,7 +97,9 @@ module _ {K : Type 0} (written : K → Option (List ℕ)) (finished : K → Bool
       → TakesFile (Some bytes) (state_of written finished old) (state_of written finished new) r
   takes_whole bytes old new (Ok reply) memory h = record { written = h.whole; is_finished = h.ends }
   takes_whole bytes old new (Err e) memory h =
-      subst (λ (f : Fault). TakesFile (Some bytes) (state_of written finished old) (state_of written finished new) (Err f)) (sym memory) (inr (record { written = h.whole; is_finished = h.ends }))
+      subst
+      (λ (f : Fault). TakesFile (Some bytes) (state_of written finished old) (state_of written finished new) (Err f))
+      (sym memory) (inr (record { written = h.whole; is_finished = h.ends }))
 
   -- an untouched sink under a fault
   pub takes_none : (file : Option (List ℕ)) (old new : K) (e : Fault) → new ≡ old → e ≢ Output
@@ -112,13 +116,19 @@ module _ {K : Type 0} (written : K → Option (List ℕ)) (finished : K → Bool
       → LeavesSink old new e → IsEndOf e r → FitsFile e file r
       → TakesFile file (state_of written finished old) (state_of written finished new) r
   takes_file Writes None old new complete r is one h left end fits = absurd (false≢true fits)
-  takes_file Writes (Some bytes) old new complete r is one h left end fits = takes_whole bytes old new r end (subst (λ (l : List ℕ). copying.Delivers written finished l old new) (one h.0 h.1) h.2)
+  takes_file Writes (Some bytes) old new complete r is one h left end fits =
+      takes_whole bytes old new r end
+      (subst (λ (l : List ℕ). copying.Delivers written finished l old new) (one h.0 h.1) h.2)
   takes_file Writes file old new read_fault r is one h left end fits =
-      subst (TakesFile file (state_of written finished old) (state_of written finished new)) (sym end) (takes_input file old new (h (unwrap_or file []) is))
+      subst (TakesFile file (state_of written finished old) (state_of written finished new)) (sym end)
+      (takes_input file old new (h (unwrap_or file []) is))
   takes_file Writes file old new write_fault r is one h left end fits =
-      subst (TakesFile file (state_of written finished old) (state_of written finished new)) (sym end) (takes_output file old new (h (unwrap_or file []) is))
+      subst (TakesFile file (state_of written finished old) (state_of written finished new)) (sym end)
+      (takes_output file old new (h (unwrap_or file []) is))
   takes_file Writes file old new untouched (Ok reply) is one h left end fits =
-      subst (λ (x : Option (List ℕ)). TakesFile x (state_of written finished old) (state_of written finished new) (Ok reply)) (sym fits) (still old new left)
+      subst
+      (λ (x : Option (List ℕ)). TakesFile x (state_of written finished old) (state_of written finished new) (Ok reply))
+      (sym fits) (still old new left)
   takes_file Writes file old new untouched (Err e) is one h left end fits = takes_none file old new e left end
 
 -- ---- whether the file is finished
@@ -136,9 +146,12 @@ module _ {K : Type 0} (finished : K → Bool) where
   pub file_end : (old new : K) (e : Ending) (r : Result Reply Fault) → copying.EndsSink finished old new e → IsEndOf e r
       → FitsAnswer e r → FileEnd (new ≡ old) (finished old) (finished new) r
   file_end old new complete (Ok reply) h end fits = ((λ done. h.finish), inl fits)
-  file_end old new complete (Err e) h end fits = subst (λ (f : Fault). FileEnd (new ≡ old) (finished old) (finished new) (Err f)) (sym end) (inr h.finish)
-  file_end old new read_fault r h end fits = subst (FileEnd (new ≡ old) (finished old) (finished new)) (sym end) h.finish
-  file_end old new write_fault r h end fits = subst (FileEnd (new ≡ old) (finished old) (finished new)) (sym end) h.finish
+  file_end old new complete (Err e) h end fits =
+      subst (λ (f : Fault). FileEnd (new ≡ old) (finished old) (finished new) (Err f)) (sym end) (inr h.finish)
+  file_end old new read_fault r h end fits =
+      subst (FileEnd (new ≡ old) (finished old) (finished new)) (sym end) h.finish
+  file_end old new write_fault r h end fits =
+      subst (FileEnd (new ≡ old) (finished old) (finished new)) (sym end) h.finish
   file_end old new untouched (Ok reply) h end fits = ((λ done. absurd (fits done)), inr h.leaves)
   file_end old new untouched (Err e) h end fits = end_none old new e h.leaves h.finish end
 
@@ -148,4 +161,5 @@ module _ {K : Type 0} (finished : K → Bool) where
 pub stands_with : (o : Outcome) (file : Option (List ℕ)) (r : Result Reply Fault) (expected : Outcome)
     → expected ≡ with_file file o → IfOk r (λ reply. outcome_of reply ≡ o) → IfOk r (StandsFor expected [])
 stands_with o file r expected is out = each_ok _ (StandsFor expected []) r
-    (λ reply same. record { answer = ap (λ (x : Outcome). x.answer) is ∙ sym (ap (λ (x : Outcome). x.answer) same); report = ap (λ (x : Outcome). x.report) is ∙ sym (ap (λ (x : Outcome). x.report) same) }) out
+    (λ reply same. record { answer = ap (λ (x : Outcome). x.answer) is ∙ sym (ap (λ (x : Outcome). x.answer) same); report = ap (λ (x : Outcome). x.report) is ∙ sym (ap (λ (x : Outcome). x.report) same) })
+    out

@@ -6,7 +6,8 @@ use Rattle.c2_build_refusals.specs.Kinds.{Effects, ErrorKind, MayCome, kind_of, 
 use Rattle.c2_build_refusals.specs.declared.error.BuildError.{BuildError}
 use Rattle.c2_build_refusals.specs.declared.error.BuildError.TheVariants as build
 use Rattle.c2_build_refusals.specs.declared.types.Embedded.{Embedded}
-use Rattle.c2_texts.specs.Builds.{bad_definition_line, bad_signature_line, bad_table_line, bad_tree_line, embedded_line, has_store_line, label_clash_line, label_taken_line, media_refused_line, no_instance_line, not_bmff_line, offset_table_line, open_box_line, other_refused_line, overflow_line, parent_fails_line, redaction_refused_line, reserve_too_small_line, store_too_large_line, tbs_line, too_many_manifests_line}
+use Rattle.c2_texts.specs.Builds.{bad_definition_line, bad_signature_line, bad_table_line, bad_tree_line, embedded_line, has_store_line, label_clash_line, label_taken_line, media_refused_line, no_instance_line}
+use Rattle.c2_texts.specs.Builds.{not_bmff_line, offset_table_line, open_box_line, other_refused_line, overflow_line, parent_fails_line, redaction_refused_line, reserve_too_small_line, store_too_large_line, tbs_line, too_many_manifests_line}
 use Rattle.c2_cmd_outcome.specs.Outcome.{Outcome, reports}
 use Rattle.c2_cmd_outcome.specs.Reply.{outcome_of}
 use Rattle.c2_cmd_outcome.specs.declared.reply.Fault.{Fault}
@@ -87,7 +88,7 @@ tbs_outcome bytes = reports answer.Done (tbs_line bytes)
 abbrev pub range_outcome : ℕ → ℕ → Outcome
 range_outcome start length = reports answer.Done (embedded_line start length)
 
--- the same of a range that is answered
+-- what is reported of the embedded range that a build answers
 abbrev pub embedded_outcome : Embedded → Outcome
 embedded_outcome range = range_outcome range.start range.length
 

@@ -6,11 +6,11 @@ use Rattle.c2_spec.specs.Jumbf.Tree.{AreDistinctLabels, Tree, none, tree_bytes, 
 use Rattle.c2_label_index.specs.Places.{ArePlaces}
 use Rattle.c2_label_index.specs.declared.places.Places.{Places}
 use Rattle.c2_chain_spec.specs.Joined.{picked}
-use Rattle.c2_parent_spec.specs.Redacting.{redacted_box}
+use Rattle.c2_new_file_spec.specs.Redacting.{redacted_box}
 use Rattle.c2_collect_spec.specs.Sides.{ClashesAt, boxes_then, is_carried_box}
 use Rattle.c2_collect.specs.Marked.{MarkedStore, box_labels, flag_at, is_marked, manifests_in}
 
--- Of each label of these manifests, which all differ, its place is kept.
+-- The labels of these manifests all differ, and the place of each is kept.
 pub record FindsLabels (manifests : List Tree) (places : Places) : Type 0 where
   pub distinct : AreDistinctLabels (box_labels manifests)
   pub kept : ArePlaces (box_labels manifests) places
@@ -44,11 +44,11 @@ pub record AreCarried (old other : MarkedStore) (flags : List Bool) (n : ℕ) : 
       → flag_at flags i ≡ is_carried_over old other i t
   pub apart : (i : ℕ) → i < n → StoresClash old other i → ⊥
 
--- those of these manifests that the flags want; the first has place `k`
+-- the manifests that the flags want among these, of which the first has place `k`
 abbrev pub wanted_in : List Bool → ℕ → List Tree → List Tree
 wanted_in flags k ts = picked (λ i t. flag_at flags i) k ts
 
--- their bytes
+-- the bytes of the manifests that the flags want among these, of which the first has place `k`
 abbrev pub wanted_from : List Bool → ℕ → List Tree → List ℕ
 wanted_from flags k ts = trees_bytes (boxes_then none (wanted_in flags k ts))
 

@@ -3,8 +3,8 @@ use Rattle.std.specs.Prelude.{◌≡◌, ℕ, Bool, false, List, Option, length,
 use Rattle.c2_spec.specs.C2pa.Manifest.{IsStoreOf}
 use Rattle.c2_spec.specs.Jumbf.Tree.{Tree, Trees, tree_bytes, tree_label}
 use Rattle.c2_spec.specs.declared.store.ManifestBoxes.{ManifestBoxes}
-use Rattle.c2_new_store_spec.specs.Manifests.{supers_in}
-use Rattle.c2_parent_spec.specs.Redacting.{boxes_in}
+use Rattle.c2_new_file_spec.specs.Manifests.{supers_in}
+use Rattle.c2_new_file_spec.specs.Redacting.{boxes_in}
 
 -- The boxes of the store's root behind its description, and the flags.
 pub record MarkedStore : Type 0 where
@@ -19,7 +19,7 @@ marked t flags = record { boxes = boxes_in t; reached = flags }
 abbrev pub flag_at : List Bool → ℕ → Bool
 flag_at flags i = get_or flags i false
 
--- its manifests
+-- the manifests of a marked store
 abbrev pub manifests_in : MarkedStore → List Tree
 manifests_in s = supers_in s.boxes
 

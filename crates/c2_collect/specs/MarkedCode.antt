@@ -9,7 +9,7 @@ use Rattle.c2_collect.specs.Marked.{MarkedStore}
 abbrev pub trees_code : Coded Trees
 trees_code = record { code = coded_all; inj = all_once }
 
--- and so can boxes with flags
+-- boxes with flags can be told from all others
 abbrev pub marked_code : Coded MarkedStore
 marked_code =
     code_by (Trees × List Bool) (coded× trees_code (coded_list coded_bool)) (λ s. (s.boxes, s.reached)) (λ p. record { boxes = p.0; reached = p.1 }) (λ _. refl)

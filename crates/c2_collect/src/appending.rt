@@ -1,7 +1,7 @@
 // Bytes, and behind them the manifests of a store that are wanted, appended as they stand.
 ghost use Rattle.std.specs.Prelude.{◌≡◌, ◌++◌, ◌<◌, ◌^◌, OnOk, filter, length};
 ghost use Rattle.c2_spec.specs.Jumbf.Tree.{trees_bytes};
-ghost use Rattle.c2_parent_spec.specs.Redacting.{redacted_boxes};
+ghost use Rattle.c2_new_file_spec.specs.Redacting.{redacted_boxes};
 ghost use Rattle.c2_collect.specs.Marked.{manifests_in};
 ghost use Rattle.c2_collect.specs.Carried.{less_in, wanted_bytes};
 

@@ -6,7 +6,7 @@ use thiserror::Error;
 /// Why two stores aren't joined.
 #[derive(Clone, Copy, Debug, PartialEq, Eq, Error)]
 pub enum JoinError {
-    /// They clash at the manifest at this place of the other store, and at none before it.
+    /// The stores clash at the manifest at this place of the other store, and at none before it.
     #[error("manifest {0} has the label of another manifest")]
     LabelClash(usize),
 

@@ -2,8 +2,8 @@
 ghost use Rattle.std.specs.Prelude.{◌≡◌, ◌++◌, [], ℕ, Err, IfOk, OnOk, length};
 ghost use Rattle.c2_spec.specs.C2pa.Manifest.{IsStoreOf};
 ghost use Rattle.c2_spec.specs.Jumbf.Tree.{none, trees_bytes};
-ghost use Rattle.c2_new_store_spec.specs.Manifests.{supers_in};
-ghost use Rattle.c2_parent_spec.specs.Redacting.{boxes_in, redacted_boxes};
+ghost use Rattle.c2_new_file_spec.specs.Manifests.{supers_in};
+ghost use Rattle.c2_new_file_spec.specs.Redacting.{boxes_in, redacted_boxes};
 ghost use Rattle.c2_collect_spec.specs.Sides.{ClashFirst, DoNotClash, carried_trees, joined_boxes};
 ghost use Rattle.c2_collect.specs.Marked.{flag_at, is_marked, manifests_in};
 ghost use Rattle.c2_collect.specs.declared.error.JoinError.TheVariants.{LabelClash};

@@ -1,31 +1,32 @@
 -- Redactions of a chain of which none is refused may be made.
-use Rattle.std.proofs.Common.{◌≡◌, ⊎_elim, ℕ, ◌+◌, ◌<◌, Bool, true, false, not, ◌&&◌, cond, List, [], ◌∷◌, ◌++◌, length, Option, Some, None, slice_get, refl, sym, ap, ◌∙◌, subst, bytes_eq}
-use Rattle.std.specs.Prelude.{nat_lt, option_map, option_and_then}
+use Rattle.std.proofs.Common.{◌≡◌, ⊎_elim, ℕ, ◌+◌, Bool, true, false, not, ◌&&◌, cond, List, [], ◌∷◌, ◌++◌, length, Option, Some, None, slice_get, refl, sym, ap, ◌∙◌, subst, bytes_eq}
+use Rattle.std.specs.Prelude.{option_map}
 use Rattle.std.specs.List.{AllByRecursion, list_any}
 use Rattle.std.specs.Option.{option_or}
-use Rattle.std.proofs.lemmas.Bool.{or_parts, both_ways, not-false, true≢false, false≢true, false_from_ne_true}
+use Rattle.std.proofs.lemmas.Bool.{not-false, false≢true}
 use Rattle.std.proofs.lemmas.Option.{same_Some, slice_get_within}
 use Rattle.std.proofs.lemmas.Slice.Eq.{bytes_eq-Decides}
 use Rattle.c2_spec.specs.C2pa.Assertion.{kind_of}
 use Rattle.c2_spec.specs.C2pa.Manifest.{is_given}
-use Rattle.c2_spec.specs.C2pa.Uri.{PlainUri, PlainTarget, whole, assertion, signature, other, uri_of}
-use Rattle.c2_spec.specs.declared.assertion.Kind.{Kind}
+use Rattle.c2_spec.specs.C2pa.Uri.{assertion, uri_of}
 use Rattle.c2_spec.specs.declared.assertion.Kind.TheVariants as kinds
-use Rattle.c2_rules.specs.Chains.{any_below, assertion_label, child_of, is_reached, label_in, named_in, names_assertion, passes_some, place_before, place_of}
+use Rattle.c2_rules.specs.Chains.{is_reached, label_in, named_in, names_assertion, passes_some}
 use Rattle.c2_rules.specs.Ingredients.{is_ingredient, is_ingredient_kind, is_ingredient_label}
 use Rattle.c2_rules.specs.Readings.{ReadBox, Reading, entries_in}
-use Rattle.c2_rules.specs.Rules.{is_any_ingredient, lists_label, redaction_tests, target_tests, uri_tests}
+use Rattle.c2_rules.specs.Rules.{lists_label, redaction_tests, target_tests, uri_tests}
 use Rattle.c2_rules.specs.Rules as rule
 use Rattle.c2_rules.specs.Tests.{Test, each, first_failing}
-use Rattle.c2_rules.proofs.ListLemmas.{both_true, from_below, from_passes, in_below, or_cases}
-use Rattle.c2_rules.proofs.ReachLemmas.{placed}
-use Rattle.c2_chain_older_spec.specs.Older.{has_signature, is_kept}
-use Rattle.c2_new_store_spec.proofs.Conditions.{Holds, all_hold}
-use Rattle.c2_new_store_spec.proofs.Lists.{each-append, each-back, each-front}
-use Rattle.c2_parent_spec.specs.Less.{SignsTaken}
-use Rattle.c2_parent_spec.specs.Redacting.{takes_out}
-use Rattle.c2_parent_spec.specs.Refusing.{entry_tests, has_assertion, is_target, names_unsigned, new_claim_uri, refusal_after, refused_by}
+use Rattle.c2_rules.proofs.ListLemmas.{from_below, from_passes}
+use Rattle.c2_chain_spec.specs.Older.{has_signature, is_kept}
+use Rattle.c2_new_file_spec.proofs.Conditions.{Holds, all_hold}
+use Rattle.c2_new_file_spec.specs.Less.{SignsTaken}
+use Rattle.c2_new_file_spec.specs.Redacting.{takes_out}
+use Rattle.c2_new_file_spec.specs.Refusing.{entry_tests, has_assertion, is_target, names_unsigned, new_claim_uri, refusal_after, refused_by}
 use Rattle.c2_collect_spec.specs.Refusals.{RedactionsAreAcceptedBy, RefusalsAreStanding, entry_tests_by, has_target_by, has_unsigned_by, refusal_after_by}
+use Rattle.c2_lemmas.proofs.Bools.{both_true, or_cases}
+use Rattle.c2_lemmas.proofs.Each.{each_append, each_back, each_front}
+use Rattle.c2_lemmas.proofs.Options.{map_none, none_first}
+use Rattle.c2_new_file_spec.proofs.Accepted.{below_false, child_label, each_box, named_uri, no_kind, none_unsigned}
 
 -- ---- an entry that isn't refused
 
@@ -46,16 +47,6 @@ record IsFine (reached : ℕ → Bool) (own : List ℕ) (rs : List Reading) (tex
   target : has_target_by reached rs before text ≡ true
   signed : has_unsigned_by reached rs text ≡ false
 
--- neither of two is there where the first of both isn't
-none_first : {A : Type 0} (o p : Option A) → option_or o p ≡ None → (o ≡ None) × (p ≡ None)
-none_first None p e = (refl, e)
-none_first (Some x) p e = absurd (cc (e))
-
--- nothing is made of nothing alone
-map_none : {A B : Type 0} (f : A → B) (o : Option A) → option_map f o ≡ None → o ≡ None
-map_none f None e = refl
-map_none f (Some x) e = absurd (cc (e))
-
 -- where none is refused, each entry passes
 fine_each : (reached : ℕ → Bool) (own : List ℕ) (rs : List Reading) (before texts : List (List ℕ))
     → refusal_after_by reached own rs before texts ≡ None → AllByRecursion (IsFine reached own rs) texts
@@ -67,42 +58,20 @@ fine_each reached own rs before (text ∷ texts) e =
     let all : AllByRecursion Holds (entry_tests_by reached own rs before text) =
     none_holds (entry_tests_by reached own rs before text)
     (map_none (refused_by text) (first_failing (entry_tests_by reached own rs before text)) parts.0) in
-    let back = each-back Holds (redaction_tests own (new_claim_uri own) text) _ all in
-    (record { rules = each-front Holds (redaction_tests own (new_claim_uri own) text) _ all; before = before; target = not-false (has_target_by reached rs before text) back.0; signed = back.1.0 }, fine_each reached own rs (before ++ text ∷ []) texts parts.1)
+    let back = each_back Holds (redaction_tests own (new_claim_uri own) text) _ all in
+    (record { rules = each_front Holds (redaction_tests own (new_claim_uri own) text) _ all; before = before; target = not-false (has_target_by reached rs before text) back.0; signed = back.1.0 }, fine_each reached own rs (before ++ text ∷ []) texts parts.1)
 
--- so the rules on redactions hold of each
+-- where no redaction is refused, the rules on redactions hold of each
 rules_each : (reached : ℕ → Bool) (own : List ℕ) (rs : List Reading) (k : ℕ) (texts : List (List ℕ))
     → AllByRecursion (IsFine reached own rs) texts
     → AllByRecursion Holds (each (λ k text. redaction_tests own (new_claim_uri own) text) k texts)
 rules_each reached own rs k [] h = tt
 rules_each reached own rs k (text ∷ texts) h =
-    each-append Holds (redaction_tests own (new_claim_uri own) text)
+    each_append Holds (redaction_tests own (new_claim_uri own) text)
     (each (λ k text. redaction_tests own (new_claim_uri own) text) (k + 1) texts) h.0.rules
     (rules_each reached own rs (k + 1) texts h.1)
 
 -- ---- the entry that takes a label out
-
--- what is given is this label
-given_is : (o : Option (List ℕ)) (l : List ℕ) → is_given o l ≡ true → o ≡ Some l
-given_is None l e = absurd (false≢true e)
-given_is (Some g) l e = ap Some ((bytes_eq-Decides g l).0 e)
-
--- the target of that label
-target_is : (t : PlainTarget) (l : List ℕ) → assertion_label t ≡ Some l → t ≡ assertion l
-target_is whole l e = absurd (cc (e))
-target_is (assertion o) l e = ap assertion (same_Some o l e)
-target_is signature l e = absurd (cc (e))
-target_is (other p) l e = absurd (cc (e))
-
--- the one URI that names an assertion
-named_uri : (m l : List ℕ) (u : Option PlainUri) → names_assertion m l u ≡ true
-    → u ≡ Some (record { manifest = Some m; target = assertion l })
-named_uri m l None e = absurd (false≢true e)
-named_uri m l (Some u) e =
-    let both = both_true (is_given u.manifest m) (is_given (assertion_label u.target) l) e in
-    ap (λ (o : Option (List ℕ)). Some (record { manifest = o; target = u.target })) (given_is u.manifest m both.0)
-    ∙ ap (λ (t : PlainTarget). Some (record { manifest = Some m; target = t }))
-    (target_is u.target l (given_is (assertion_label u.target) l both.1))
 
 -- an entry that takes this label out of this manifest
 record Takes (reached : ℕ → Bool) (own : List ℕ) (rs : List Reading) (m l : List ℕ) : Type 0 where
@@ -116,20 +85,10 @@ takes : (reached : ℕ → Bool) (own : List ℕ) (rs : List Reading) (m l : Lis
 takes reached own rs m l [] h e = absurd (false≢true e)
 takes reached own rs m l (text ∷ texts) h e =
     ⊎_elim (λ here. record { text = text; fine = h.0; uri = named_uri m l (uri_of text) here })
-    (λ later. takes reached own rs m l texts h.1 later) (or_cases (names_assertion m l (uri_of text)) (takes_out texts m l) e)
+    (λ later. takes reached own rs m l texts h.1 later)
+    (or_cases (names_assertion m l (uri_of text)) (takes_out texts m l) e)
 
 -- ---- kinds
-
--- a kind that is none of ingredients
-no_kind : (k : Kind) → is_any_ingredient k ≡ false → is_ingredient_kind k ≡ false
-no_kind kinds.DataHash e = refl
-no_kind kinds.BmffHash e = refl
-no_kind kinds.OtherHash e = refl
-no_kind kinds.Ingredient e = absurd (true≢false e)
-no_kind kinds.IngredientOther e = refl
-no_kind kinds.Actions e = refl
-no_kind kinds.Cloud e = refl
-no_kind kinds.Ordinary e = refl
 
 -- what is taken out is no ingredient
 taken_kind : (reached : ℕ → Bool) (own : List ℕ) (rs : List Reading) (m l : List ℕ) → Takes reached own rs m l
@@ -140,7 +99,7 @@ taken_kind reached own rs m l t =
     subst (λ u. AllByRecursion Holds (uri_tests own (new_claim_uri own) u)) t.uri t.fine.rules in
     no_kind (kind_of l) tests.1.1.1.0
 
--- nor is a box that isn't kept
+-- a box that isn't kept is no ingredient
 no_ingredient : (reached : ℕ → Bool) (own : List ℕ) (rs : List Reading) (texts : List (List ℕ)) (m : List ℕ) (b : ReadBox)
     → AllByRecursion (IsFine reached own rs) texts → is_kept (takes_out texts m) b ≡ false
     → is_ingredient b.boxed ≡ false
@@ -149,11 +108,6 @@ no_ingredient reached own rs texts m b h e = go b.boxed.label (not-false (passes
     go : (o : Option (List ℕ)) → passes_some (takes_out texts m) o ≡ true → is_ingredient_label o ≡ false
     go None g = absurd (false≢true g)
     go (Some l) g = taken_kind reached own rs m l (takes reached own rs m l texts h g)
-
--- what holds of any box holds of each
-each_box : (P : ReadBox → Type 0) (boxes : List ReadBox) → ((b : ReadBox) → P b) → AllByRecursion P boxes
-each_box P [] h = tt
-each_box P (b ∷ boxes) h = (h b, each_box P boxes h)
 
 -- ---- the manifest that loses a box
 
@@ -166,14 +120,15 @@ record IsTargetAt (reached : ℕ → Bool) (rs : List Reading) (m l : List ℕ) 
   label : label_in reading ≡ m
   listed : lists_label reading.manifest (entries_in reading) l ≡ true
 
--- it is there
+-- the reached manifest of which a label is taken out is there
 target_at : (reached : ℕ → Bool) (own : List ℕ) (rs : List Reading) (m l : List ℕ) → Takes reached own rs m l
     → IsTargetAt reached rs m l
 target_at reached own rs m l t =
     let before : List (List ℕ) = t.fine.before in
     let found =
     from_below (λ i. reached i && passes_some (is_target before (uri_of t.text)) (slice_get rs i)) (length rs) t.fine.target in
-    let both = both_true (reached found.0) (passes_some (is_target before (uri_of t.text)) (slice_get rs found.0)) found.2 in
+    let both =
+    both_true (reached found.0) (passes_some (is_target before (uri_of t.text)) (slice_get rs found.0)) found.2 in
     let at = from_passes (is_target before (uri_of t.text)) (slice_get rs found.0) both.1 in
     let named : is_target before (Some (record { manifest = Some m; target = assertion l })) at.0 ≡ true =
     sym (ap (λ u. is_target before u at.0) t.uri) ∙ at.2 in
@@ -189,42 +144,11 @@ target_at reached own rs m l t =
 
 -- ---- signatures
 
--- what passes nowhere doesn't pass here
-below_false : (f : ℕ → Bool) (n i : ℕ) → any_below f n ≡ false → i < n → f i ≡ false
-below_false f n i e lt = false_from_ne_true (f i) (λ t. both_ways (any_below f n) e (in_below f n i lt t))
-
--- the label of the child that a box names
-child_label : (rs : List Reading) (i m : ℕ) (b : ReadBox) (c : Reading) → child_of rs i b ≡ Some m
-    → slice_get rs m ≡ Some c → named_in b ≡ Some (label_in c)
-child_label rs i m b c e f = go (named_in b) refl e
-  where
-    before : (o : Option ℕ) → place_before i o ≡ Some m → o ≡ Some m
-    before None g = absurd (cc (g))
-    before (Some k) g = by_test (nat_lt k i) g
-      where
-        by_test : (x : Bool) → cond x (Some k) None ≡ Some m → ◌≡◌ {A = Option ℕ} (Some k) (Some m)
-        by_test true h = h
-        by_test false h = absurd (cc (h))
-
-    go : (o : Option (List ℕ)) → named_in b ≡ o → place_before i (option_and_then (place_of rs) o) ≡ Some m
-        → named_in b ≡ Some (label_in c)
-    go None g h = absurd (cc (h))
-    go (Some lab) g h =
-        let at = placed rs lab m (before (place_of rs lab) h) in
-        g ∙ ap Some (sym at.2 ∙ ap label_in (same_Some at.0 c (sym at.1 ∙ f)))
-
 -- no text names this box's manifest where the box lacks a signature
 abbrev BoxFine : List (List ℕ) → ReadBox → Type 0
 BoxFine texts b = AllByRecursion (λ (text : List ℕ). names_unsigned (uri_of text) b ≡ false) texts
 
--- none of these boxes lacks a signature
-none_unsigned : (u : Option PlainUri) (boxes : List ReadBox) → list_any (names_unsigned u) boxes ≡ false
-    → AllByRecursion (λ (b : ReadBox). names_unsigned u b ≡ false) boxes
-none_unsigned u [] e = tt
-none_unsigned u (b ∷ boxes) e =
-    let parts = or_parts (names_unsigned u b) (list_any (names_unsigned u) boxes) e in (parts.0, none_unsigned u boxes parts.1)
-
--- of one text, over the boxes of a reached manifest
+-- none of the boxes of a reached manifest lacks a signature, of one text
 signed_boxes : (reached : ℕ → Bool) (rs : List Reading) (i : ℕ) (r : Reading) (text : List ℕ) → reached i ≡ true
     → slice_get rs i ≡ Some r → has_unsigned_by reached rs text ≡ false
     → AllByRecursion (λ (b : ReadBox). names_unsigned (uri_of text) b ≡ false) r.boxes
@@ -232,16 +156,18 @@ signed_boxes reached rs i r text there is h =
     let f : Reading → Bool = λ (x : Reading). list_any (names_unsigned (uri_of text)) x.boxes in
     let at : (reached i && passes_some f (slice_get rs i)) ≡ false =
     below_false (λ k. reached k && passes_some f (slice_get rs k)) (length rs) i h (slice_get_within rs i r is) in
-    none_unsigned (uri_of text) r.boxes (sym (ap (λ x. x && passes_some f (slice_get rs i)) there ∙ ap (passes_some f) is) ∙ at)
+    none_unsigned (uri_of text) r.boxes
+    (sym (ap (λ x. x && passes_some f (slice_get rs i)) there ∙ ap (passes_some f) is) ∙ at)
 
 -- box by box, of one more text
 add_text : (text : List ℕ) (texts : List (List ℕ)) (boxes : List ReadBox)
-    → AllByRecursion (λ (b : ReadBox). names_unsigned (uri_of text) b ≡ false) boxes → AllByRecursion (BoxFine texts) boxes
+    → AllByRecursion (λ (b : ReadBox). names_unsigned (uri_of text) b ≡ false) boxes
+    → AllByRecursion (BoxFine texts) boxes
     → AllByRecursion (BoxFine (text ∷ texts)) boxes
 add_text text texts [] h k = tt
 add_text text texts (b ∷ boxes) h k = ((h.0, k.0), add_text text texts boxes h.1 k.1)
 
--- of all texts
+-- each box of a reached manifest is fine with all texts
 boxes_fine : (reached : ℕ → Bool) (own : List ℕ) (rs : List Reading) (i : ℕ) (r : Reading) (texts : List (List ℕ))
     → AllByRecursion (IsFine reached own rs) texts → reached i ≡ true → slice_get rs i ≡ Some r
     → AllByRecursion (BoxFine texts) r.boxes
@@ -262,7 +188,7 @@ box_signed m l b (text ∷ texts) n h t = ⊎_elim (λ here.
     sym (ap (λ u. names_unsigned u b) uri) ∙ h.0 in
     not-false (has_signature b) (sym (ap (λ x. x && not (has_signature b)) names) ∙ lacks)) (λ later. box_signed m l b texts n h.1 later) (or_cases (names_assertion m l (uri_of text)) (takes_out texts m l) t)
 
--- so each box names a signature where something is taken out of its child
+-- each box names a signature where something is taken out of its child
 all_signed : (rs : List Reading) (i : ℕ) (texts : List (List ℕ)) (boxes : List ReadBox)
     → AllByRecursion (BoxFine texts) boxes → AllByRecursion (SignsTaken texts rs i) boxes
 all_signed rs i texts [] h = tt
@@ -277,10 +203,12 @@ accepted reached own rs texts differ e =
     let fine = fine_each reached own rs [] texts e in
     record {
       can = record {
-        kinds = λ i r is. each_box (λ b. is_kept (takes_out texts (label_in r)) b ≡ false → is_ingredient b.boxed ≡ false) r.boxes (λ b f. no_ingredient reached own rs texts (label_in r) b fine f);
+        kinds =
+            λ i r is. each_box (λ b. is_kept (takes_out texts (label_in r)) b ≡ false → is_ingredient b.boxed ≡ false) r.boxes (λ b f. no_ingredient reached own rs texts (label_in r) b fine f);
         reached = λ i r label is taken. let t = target_at reached own rs (label_in r) label (takes reached own rs (label_in r) label texts fine taken) in subst (λ k. reached k ≡ true) (differ t.place i t.reading r t.is is t.label) t.is_reached;
         listed = λ i r label is taken.
-            let t = target_at reached own rs (label_in r) label (takes reached own rs (label_in r) label texts fine taken) in
+            let t =
+            target_at reached own rs (label_in r) label (takes reached own rs (label_in r) label texts fine taken) in
             let same : t.reading ≡ r =
             same_Some t.reading r (sym t.is ∙ ap (slice_get rs) (differ t.place i t.reading r t.is is t.label) ∙ is) in
             subst (λ (x : Reading). lists_label x.manifest (entries_in x) label ≡ true) same t.listed;
@@ -299,6 +227,6 @@ refusals_same own rs before (text ∷ others) =
     ap (λ o. option_or (option_map (refused_by text) (first_failing (entry_tests own rs before text))) o)
     (refusals_same own rs (before ++ text ∷ []) others)
 
--- so all are
+-- what is refused of what is reached in a store is what is refused of the store
 pub refusals_standing : RefusalsAreStanding
 refusals_standing own rs redacts = refusals_same own rs [] redacts

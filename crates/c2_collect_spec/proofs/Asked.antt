@@ -1,4 +1,9 @@
 -- What judges are asked behind stages is one list where each stage comes to one thing, and a list where each comes to something.
+use Rattle.c2_collect_spec.proofs.Contents.{content_one}
+use Rattle.c2_read_manifests.proofs.TheLaws.{one_reading_manifests, one_reading_store}
+use Rattle.c2_definition.proofs.TheLaws.{each_definition_is_read_one_way_one}
+use Rattle.c2_new_signature.proofs.TheLaws.{a_message_fills_its_reserve_or_needs_more, each_message_is_accepted_or_refused_for_one_test}
+use Rattle.c2_new_file_spec.proofs.FileLaws.{a_place_is_one, what_is_left_is_one}
 use Rattle.std.proofs.Common.{◌≡◌, ℕ, List, [], ◌++◌, refl, sym, ap, ◌∙◌, subst}
 use Rattle.std.specs.Prelude.{Result, Ok, Err}
 use Rattle.c2_base.specs.declared.values.Question.{Question}
@@ -18,6 +23,7 @@ use Rattle.c2_collect_spec.specs.Outcomes.{PairAsks, SomeCollectMade, SomeCollec
 use Rattle.c2_collect_spec.proofs.OneOutcome.{OneLaws, one_definition, one_media, one_message, one_parent}
 use Rattle.c2_collect_spec.proofs.SomeOutcome.{answer_over, opened_as}
 use Rattle.c2_collect_spec.proofs.Stages.{IsOne}
+use Rattle.c2_cbor_spec.proofs.PlainBack.{one_item}
 
 -- ---- one list
 
@@ -26,29 +32,35 @@ abbrev pub IsOneList : (List Question → Type 0) → Type 0
 IsOneList Asks = (ps qs : List Question) → Asks ps → Asks qs → ps ≡ qs
 
 -- what is asked behind one thing is one list
-one_behind : {A : Type 0} (Asks : A → List Question → Type 0) → ((a : A) → IsOneList (Asks a)) → (first : Result A CollectRefusal) → IsOneList (AskedBehind first Asks)
+one_behind : {A : Type 0} (Asks : A → List Question → Type 0) → ((a : A) → IsOneList (Asks a))
+    → (first : Result A CollectRefusal) → IsOneList (AskedBehind first Asks)
 one_behind Asks one (Ok a) ps qs h k = one a ps qs h k
 one_behind Asks one (Err e) ps qs h k = h ∙ sym k
 
--- and behind a stage that comes to one thing
-one_asked : {A : Type 0} (First : Result A CollectRefusal → Type 0) (Asks : A → List Question → Type 0) → IsOne First → ((a : A) → IsOneList (Asks a)) → IsOneList (AsksThen First Asks)
+-- what is asked behind a stage that has one outcome is one list
+one_asked : {A : Type 0} (First : Result A CollectRefusal → Type 0) (Asks : A → List Question → Type 0) → IsOne First
+    → ((a : A) → IsOneList (Asks a)) → IsOneList (AsksThen First Asks)
 one_asked {A} First Asks first one ps qs h k =
-    one_behind Asks one k.first ps qs (subst (λ (r : Result A CollectRefusal). AskedBehind r Asks ps) (first h.first k.first h.is_first k.is_first) h.asks) k.asks
+    one_behind Asks one k.first ps qs
+    (subst (λ (r : Result A CollectRefusal). AskedBehind r Asks ps) (first h.first k.first h.is_first k.is_first) h.asks)
+    k.asks
 
 -- manifests are read in one way
 abbrev pub OneManifests : Type 0
 OneManifests = (ms : List Manifest) (rs ss : List Reading) → AreReadings ms rs → AreReadings ms ss → rs ≡ ss
 
 -- what is asked over what a file is opened as is one list
-one_opened : OneManifests → (asks : List Reading → List Question) (what : Opening Tree) → IsOneList (OpenedAsks asks what)
-one_opened one asks (refused reason number) ps qs h k = h ∙ sym k
-one_opened one asks absent ps qs h k = h ∙ sym k
-one_opened one asks (here start len t) ps qs h k = h.2 ∙ ap asks (one (manifests_of t) h.0 k.0 h.1 k.1) ∙ sym k.2
+one_opened : (asks : List Reading → List Question) (what : Opening Tree) → IsOneList (OpenedAsks asks what)
+one_opened asks (refused reason number) ps qs h k = h ∙ sym k
+one_opened asks absent ps qs h k = h ∙ sym k
+one_opened asks (here start len t) ps qs h k =
+    h.2 ∙ ap asks (one_reading_manifests (manifests_of t) h.0 k.0 h.1 k.1) ∙ sym k.2
 
 -- what the check of a file asks is one list
-one_check : OneManifests → (hash : Alg → List ℕ → List ℕ) (said : Question → Verdict) (file : List ℕ) → IsOpenedOnce file → IsOneList (CheckAsks hash said file)
-one_check one hash said file once ps qs h k =
-    one_opened one (check_asks hash said) k.0 ps qs
+one_check : (hash : Alg → List ℕ → List ℕ) (said : Question → Verdict) (file : List ℕ) → IsOpenedOnce file
+    → IsOneList (CheckAsks hash said file)
+one_check hash said file once ps qs h k =
+    one_opened (check_asks hash said) k.0 ps qs
     (subst (λ (w : Opening Tree). OpenedAsks (check_asks hash said) w ps) (once h.0 k.0 h.1 k.1) h.2) k.2
 
 -- what laws of this crate and of others say
@@ -56,30 +68,52 @@ pub record AskLaws : Type 0 where
   pub one : OneLaws
   pub manifests : OneManifests
 
+-- they hold
+pub ask_laws : AskLaws
+ask_laws =
+    record {
+      manifests = one_reading_manifests;
+      one =
+          record {
+            definition = each_definition_is_read_one_way_one;
+            item = one_item;
+            refused = each_message_is_accepted_or_refused_for_one_test;
+            fills = a_message_fills_its_reserve_or_needs_more;
+            reading = one_reading_store;
+            left = what_is_left_is_one;
+            place = a_place_is_one;
+            content = content_one;
+          };
+    }
+
 -- what is asked of both files is one list
-one_pair : AskLaws → (hash : Alg → List ℕ → List ℕ) (said : Question → Verdict) (media other : List ℕ) (what : Opening Tree) → IsOpenedOnce other
+one_pair : (hash : Alg → List ℕ → List ℕ) (said : Question → Verdict) (media other : List ℕ) (what : Opening Tree)
+    → IsOpenedOnce other
     → IsOneList (PairAsks hash said media other what)
-one_pair l hash said media other what once ps qs h k =
-    let own : h.of_media ≡ k.of_media = one_opened l.manifests (check_asks hash said) what h.of_media k.of_media h.media_asks k.media_asks in
+one_pair hash said media other what once ps qs h k =
+    let own : h.of_media ≡ k.of_media =
+    one_opened (check_asks hash said) what h.of_media k.of_media h.media_asks k.media_asks in
     let theirs : h.of_other ≡ k.of_other =
-    one_asked (IsParentStage hash said media what) (λ m. CheckAsks hash said other) (one_parent l.one hash said media what)
-    (λ m. one_check l.manifests hash said other once) h.of_other k.of_other h.other_asks k.other_asks in
-    h.are ∙ ap (λ (xs : List Question). xs ++ h.of_other) own ∙ ap (λ (xs : List Question). k.of_media ++ xs) theirs ∙ sym k.are
+    one_asked (IsParentStage hash said media what) (λ m. CheckAsks hash said other)
+    (one_parent ask_laws.one hash said media what)
+    (λ m. one_check hash said other once) h.of_other k.of_other h.other_asks k.other_asks in
+    h.are ∙ ap (λ (xs : List Question). xs ++ h.of_other) own ∙ ap (λ (xs : List Question). k.of_media ++ xs) theirs
+    ∙ sym k.are
 
 -- what a plan asks is one list
-pub one_plan_asks : AskLaws → OneCollectPlanAsks
-one_plan_asks l hash said media definition other ps qs once again =
+pub one_plan_asks : OneCollectPlanAsks
+one_plan_asks hash said media definition other ps qs once again =
     one_asked (IsMediaStage media) _ (one_media media once) (λ what.
-    one_asked (IsDefinitionStage definition) _ (one_definition l.one.definition definition) (λ d.
-    one_pair l hash said media other what again)) ps qs
+    one_asked (IsDefinitionStage definition) _ (one_definition definition) (λ d.
+    one_pair hash said media other what again)) ps qs
 
--- and so is what a build asks
-pub one_asks : AskLaws → OneCollectAsks
-one_asks l hash said media definition message other ps qs once again =
+-- what a build asks is one list
+pub one_asks : OneCollectAsks
+one_asks hash said media definition message other ps qs once again =
     one_asked (IsMediaStage media) _ (one_media media once) (λ what.
-    one_asked (IsDefinitionStage definition) _ (one_definition l.one.definition definition) (λ d.
-    one_asked (IsMessageStage d.protected message) _ (one_message l.one.item l.one.refused d.protected message) (λ m.
-    one_pair l hash said media other what again))) ps qs
+    one_asked (IsDefinitionStage definition) _ (one_definition definition) (λ d.
+    one_asked (IsMessageStage d.protected message) _ (one_message each_message_is_accepted_or_refused_for_one_test d.protected message) (λ m.
+    one_pair hash said media other what again))) ps qs
 
 -- ---- a list
 
@@ -88,8 +122,12 @@ abbrev pub SomeList : (List Question → Type 0) → Type 0
 SomeList Asks = (qs : List Question) × Asks qs
 
 -- where two stages come to something, a list is asked behind the first if one is behind each thing that it comes to
-some_asked : {A B : Type 0} (First : Result A CollectRefusal → Type 0) (Next : A → Result B CollectRefusal → Type 0) (Asks : A → List Question → Type 0) (r : Result B CollectRefusal) → Then First Next r
-    → ((a : A) (s : Result B CollectRefusal) → First (Ok a) → Next a s → SomeList (Asks a)) → SomeList (AsksThen First Asks)
+some_asked :
+    {A B : Type 0} (First : Result A CollectRefusal → Type 0) (Next : A → Result B CollectRefusal → Type 0)
+    (Asks : A → List Question → Type 0) (r : Result B CollectRefusal)
+    → Then First Next r
+    → ((a : A) (s : Result B CollectRefusal) → First (Ok a) → Next a s → SomeList (Asks a))
+    → SomeList (AsksThen First Asks)
 some_asked {A} {B} First Next Asks r h over = by h.first h.is_first h.next
   where
     by : (first : Result A CollectRefusal) → First first → After Next first r → SomeList (AsksThen First Asks)
@@ -97,7 +135,8 @@ some_asked {A} {B} First Next Asks r h over = by h.first h.is_first h.next
     by (Err e) is next = ([], record { first = Err e; is_first = is; asks = refl })
 
 -- a list is asked over what a file is opened as
-some_opened : (hash : Alg → List ℕ → List ℕ) (said : Question → Verdict) (file : List ℕ) (what : Opening Tree) → HasCheck hash said file → IsOpened file what
+some_opened : (hash : Alg → List ℕ → List ℕ) (said : Question → Verdict) (file : List ℕ) (what : Opening Tree)
+    → HasCheck hash said file → IsOpened file what
     → SomeList (OpenedAsks (check_asks hash said) what)
 some_opened hash said file (refused reason number) c opened = ([], refl)
 some_opened hash said file absent c opened = ([], refl)
@@ -105,13 +144,17 @@ some_opened hash said file (here start len t) c opened =
     let reads = answer_over hash said file (here start len t) c opened in
     (check_asks hash said reads.0.readings, (reads.0.readings, reads.1.reads.each, refl))
 
--- so by the check of a file
-some_check : (hash : Alg → List ℕ → List ℕ) (said : Question → Verdict) (file : List ℕ) → HasCheck hash said file → SomeList (CheckAsks hash said file)
+-- the check of a file asks a list
+some_check : (hash : Alg → List ℕ → List ℕ) (said : Question → Verdict) (file : List ℕ) → HasCheck hash said file
+    → SomeList (CheckAsks hash said file)
 some_check hash said file c = let some = some_opened hash said file c.is.0 c c.is.1 in (some.0, (c.is.0, c.is.1, some.1))
 
--- and of both files
-some_pair : (hash : Alg → List ℕ → List ℕ) (said : Question → Verdict) (media other : List ℕ) (what : Opening Tree) → HasCheck hash said media → HasCheck hash said other
-    → IsMediaStage media (Ok what) → SomeList (AsksThen (IsParentStage hash said media what) (λ m. CheckAsks hash said other)) → SomeList (PairAsks hash said media other what)
+-- where both files have a check, both together ask a list
+some_pair : (hash : Alg → List ℕ → List ℕ) (said : Question → Verdict) (media other : List ℕ) (what : Opening Tree)
+    → HasCheck hash said media → HasCheck hash said other
+    → IsMediaStage media (Ok what)
+    → SomeList (AsksThen (IsParentStage hash said media what) (λ m. CheckAsks hash said other))
+    → SomeList (PairAsks hash said media other what)
 some_pair hash said media other what own theirs is asked =
     let first = some_opened hash said media what own (opened_as media what is) in (
       first.0 ++ asked.0,
@@ -127,7 +170,7 @@ some_plan_asks plan hash said media definition other own theirs =
     some_pair hash said media other what own theirs is_media
     (some_asked (IsParentStage hash said media what) _ _ k.first k.is_first (λ m z is_m n. some_check hash said other theirs))))
 
--- and so does a build
+-- a build asks a list
 pub some_asks : SomeCollectMade → SomeCollectAsks
 some_asks made hash said media definition message other own theirs are =
     let r = made hash said media definition message other own theirs are in

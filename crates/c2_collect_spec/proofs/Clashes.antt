@@ -3,30 +3,34 @@ use Rattle.std.proofs.Common.{◌≡◌, ◌⊎◌, inl, inr, ⊎_elim, ℕ, zer
 use Rattle.std.specs.List.{AllByRecursion}
 use Rattle.std.proofs.lemmas.Bool.{cases_eq, cases_lt, false≢true}
 use Rattle.std.proofs.lemmas.Option.{same_Some, slice_get_within}
-use Rattle.std.proofs.lemmas.Slice.Eq.{bytes_eq-Decides}
 use Rattle.c2_spec.specs.C2pa.Manifest.{is_given}
 use Rattle.c2_spec.specs.Jumbf.Tree.{Tree, tree_bytes, tree_label}
-use Rattle.c2_rules.proofs.ListLemmas.{both_true}
-use Rattle.c2_chain_spec.proofs.Places.{contains_at, member_of}
-use Rattle.c2_new_store_spec.specs.Written.{IsStoreBox}
+use Rattle.c2_chain_spec.proofs.Places.{member_of}
+use Rattle.c2_new_file_spec.specs.Written.{IsStoreBox}
 use Rattle.c2_collect_spec.specs.Sides.{ClashFirst, ClashesAt, IsClash, IsClashLabel}
 use Rattle.c2_collect_spec.proofs.Stores.{label_there}
+use Rattle.c2_lemmas.proofs.Bools.{and_not_true, both_true, not_true_is_false}
+use Rattle.c2_lemmas.proofs.Each.{contains_at}
+use Rattle.c2_spec.proofs.GivenLabels.{given_is, is_given_back}
 
 -- ---- one
 
 -- a clash before another is none where that is the first
-not_before : (olds : List Tree) (was : ℕ → Bool) (others : List Tree) (reached : ℕ → Bool) (i j : ℕ) → ClashFirst olds was others reached i
+not_before : (olds : List Tree) (was : ℕ → Bool) (others : List Tree) (reached : ℕ → Bool) (i j : ℕ)
+    → ClashFirst olds was others reached i
     → ClashFirst olds was others reached j → i < j → ⊥
 not_before olds was others reached i j a b lt = b.earlier i lt a.here
 
 -- the first clash is at one place
-one_place : (olds : List Tree) (was : ℕ → Bool) (others : List Tree) (reached : ℕ → Bool) (i j : ℕ) → ClashFirst olds was others reached i
+one_place : (olds : List Tree) (was : ℕ → Bool) (others : List Tree) (reached : ℕ → Bool) (i j : ℕ)
+    → ClashFirst olds was others reached i
     → ClashFirst olds was others reached j → i ≡ j
 one_place olds was others reached i j a b =
     ⊎_elim (λ lt. absurd (not_before olds was others reached i j a b lt))
-    (λ le. ⊎_elim (λ lt. absurd (not_before olds was others reached j i b a lt)) (λ ge. omega (arith, le, ge)) (cases_lt j i)) (cases_lt i j)
+    (λ le. ⊎_elim (λ lt. absurd (not_before olds was others reached j i b a lt)) (λ ge. omega (arith, le, ge)) (cases_lt j i))
+    (cases_lt i j)
 
--- and so at one manifest, with one label
+-- the first clash is at one label
 one_label : (olds : List Tree) (was : ℕ → Bool) (others : List Tree) (reached : ℕ → Bool) (l m : List ℕ)
     → IsClashLabel olds was others reached l → IsClashLabel olds was others reached m → l ≡ m
 one_label olds was others reached l m a b =
@@ -71,37 +75,23 @@ found_or_not p (t ∷ ts) = by (p zero t) refl (found_or_not (λ i. p (suc i)) t
 
 -- the manifest at a place of the first store has this label, and can't stand for this one of the second
 abbrev differs_at : (ℕ → Bool) → List ℕ → Tree → ℕ → Tree → Bool
-differs_at was label theirs p ours = is_given (tree_label ours) label && not (was p && bytes_eq (tree_bytes ours) (tree_bytes theirs))
-
--- a label that is given
-given_is : (o : Option (List ℕ)) (l : List ℕ) → is_given o l ≡ true → o ≡ Some l
-given_is None l h = absurd (false≢true h)
-given_is (Some m) l h = ap Some ((bytes_eq-Decides m l).0 h)
-
--- and back
-is_given_back : (o : Option (List ℕ)) (l : List ℕ) → o ≡ Some l → is_given o l ≡ true
-is_given_back o l e = ap (λ x. is_given x l) e ∙ (bytes_eq-Decides l l).1 refl
-
--- what isn't so
-not_so : (a : Bool) → not a ≡ true → a ≡ false
-not_so true e = absurd (false≢true e)
-not_so false e = refl
-
--- both
-both : (a b : Bool) → a ≡ true → b ≡ false → (a && not b) ≡ true
-both a b e f = ap (λ x. x && not b) e ∙ ap not f
+differs_at was label theirs p ours =
+    is_given (tree_label ours) label && not (was p && bytes_eq (tree_bytes ours) (tree_bytes theirs))
 
 -- Two stores clash at a manifest, or they don't.
-clash_or_not : (olds : List Tree) (was : ℕ → Bool) (others : List Tree) (reached : ℕ → Bool) (i : ℕ) (t : Tree) (l : List ℕ) → slice_get others i ≡ Some t → tree_label t ≡ Some l
+clash_or_not :
+    (olds : List Tree) (was : ℕ → Bool) (others : List Tree) (reached : ℕ → Bool) (i : ℕ) (t : Tree) (l : List ℕ)
+    → slice_get others i ≡ Some t → tree_label t ≡ Some l
     → ClashesAt olds was others reached i ⊎ (ClashesAt olds was others reached i → ⊥)
 clash_or_not olds was others reached i t l is label = by (reached i) refl (found_or_not (differs_at was l t) olds)
   where
-    -- where they clash at this manifest, the test finds something
-    finds : ((p : ℕ) (u : Tree) → slice_get olds p ≡ Some u → differs_at was l t p u ≡ true → ⊥) → ClashesAt olds was others reached i → ⊥
+    -- where two stores clash at this manifest, the test finds something
+    finds : ((p : ℕ) (u : Tree) → slice_get olds p ≡ Some u → differs_at was l t p u ≡ true → ⊥)
+        → ClashesAt olds was others reached i → ⊥
     finds none c =
         let same : c.theirs ≡ t = same_Some c.theirs t (sym c.is_theirs ∙ is) in
         none c.place c.ours c.is_ours
-        (both (is_given (tree_label c.ours) l) (was c.place && bytes_eq (tree_bytes c.ours) (tree_bytes t))
+        (and_not_true (is_given (tree_label c.ours) l) (was c.place && bytes_eq (tree_bytes c.ours) (tree_bytes t))
         (is_given_back (tree_label c.ours) l (c.label ∙ ap tree_label same ∙ label))
         (subst (λ (x : Tree). (was c.place && bytes_eq (tree_bytes c.ours) (tree_bytes x)) ≡ false) same c.differs))
 
@@ -110,7 +100,9 @@ clash_or_not olds was others reached i t l is label = by (reached i) refl (found
         → ClashesAt olds was others reached i ⊎ (ClashesAt olds was others reached i → ⊥)
     by false e found = inr (λ c. false≢true (sym e ∙ c.is_reached))
     by true e (inl f) =
-        let parts = both_true (is_given (tree_label f.it) l) (not (was f.place && bytes_eq (tree_bytes f.it) (tree_bytes t))) f.holds in
+        let parts =
+        both_true (is_given (tree_label f.it) l) (not (was f.place && bytes_eq (tree_bytes f.it) (tree_bytes t)))
+        f.holds in
         inl (record {
           is_reached = e;
           theirs = t;
@@ -119,7 +111,7 @@ clash_or_not olds was others reached i t l is label = by (reached i) refl (found
           ours = f.it;
           is_ours = f.is;
           label = given_is (tree_label f.it) l parts.0 ∙ sym label;
-          differs = not_so (was f.place && bytes_eq (tree_bytes f.it) (tree_bytes t)) parts.1;
+          differs = not_true_is_false (was f.place && bytes_eq (tree_bytes f.it) (tree_bytes t)) parts.1;
         })
     by true e (inr none) = inr (finds none)
 
@@ -127,8 +119,9 @@ clash_or_not olds was others reached i t l is label = by (reached i) refl (found
 abbrev AreLabeled : List Tree → Type 0
 AreLabeled ts = (i : ℕ) (t : Tree) → slice_get ts i ≡ Some t → (l : List ℕ) × (tree_label t ≡ Some l)
 
--- of the first manifests, they clash first at one, or at none
-first_or_none : (olds : List Tree) (was : ℕ → Bool) (others : List Tree) (reached : ℕ → Bool) (n : ℕ) → AreLabeled others
+-- among the first manifests of the other store, two stores clash first at one, or at none
+first_or_none : (olds : List Tree) (was : ℕ → Bool) (others : List Tree) (reached : ℕ → Bool) (n : ℕ)
+    → AreLabeled others
     → ((i : ℕ) × ClashFirst olds was others reached i) ⊎ ((i : ℕ) → i < n → ClashesAt olds was others reached i → ⊥)
 first_or_none olds was others reached zero labeled = inr (λ i lt. absurd (omega (arith, lt)))
 first_or_none olds was others reached (suc n) labeled = by (first_or_none olds was others reached n labeled) (slice_get others n) refl
@@ -137,7 +130,8 @@ first_or_none olds was others reached (suc n) labeled = by (first_or_none olds w
     none_at : ((i : ℕ) → i < n → ClashesAt olds was others reached i → ⊥) → (ClashesAt olds was others reached n → ⊥)
         → (i : ℕ) → i < suc n → ClashesAt olds was others reached i → ⊥
     none_at before last i lt c =
-        ⊎_elim (λ same. last (subst (ClashesAt olds was others reached) same c)) (λ apart. before i (omega (arith, lt, apart)) c) (cases_eq i n)
+        ⊎_elim (λ same. last (subst (ClashesAt olds was others reached) same c))
+        (λ apart. before i (omega (arith, lt, apart)) c) (cases_eq i n)
 
     by : ((i : ℕ) × ClashFirst olds was others reached i) ⊎ ((i : ℕ) → i < n → ClashesAt olds was others reached i → ⊥)
         → (o : Option Tree) → slice_get others n ≡ o
@@ -150,7 +144,8 @@ first_or_none olds was others reached (suc n) labeled = by (first_or_none olds w
         (clash_or_not olds was others reached n t l.0 e l.1)
 
 -- where two stores clash is something
-pub some_clash : (olds : List Tree) (was : ℕ → Bool) (others : List Tree) (reached : ℕ → Bool) → AllByRecursion IsStoreBox others
+pub some_clash : (olds : List Tree) (was : ℕ → Bool) (others : List Tree) (reached : ℕ → Bool)
+    → AllByRecursion IsStoreBox others
     → (o : Option (List ℕ)) × IsClash olds was others reached o
 some_clash olds was others reached stores = by (first_or_none olds was others reached (length others) labeled)
   where

@@ -1,6 +1,6 @@
 -- Something goes into a new store over two stores, and it is one; and the manifests at its roots are such as ingredients may name.
 use Rattle.std.proofs.Common.{◌≡◌, ◌≢◌, inl, inr, ℕ, zero, suc, ◌<◌, ◌≤◌, true, List, [], ◌∷◌, length, find, Option, Some, None, Contains, slice_get, refl, sym, ap, ◌∙◌, subst, arith, codes, lit≤, length-append}
-use Rattle.std.specs.Prelude.{IfSome, filter_map, is_some, option_map, unwrap_or}
+use Rattle.std.specs.Prelude.{filter_map, is_some, option_map, unwrap_or}
 use Rattle.std.specs.List.{AllByRecursion, AllZip, cons_option}
 use Rattle.std.proofs.Math.Path.{fun_ext}
 use Rattle.std.proofs.lemmas.Bool.{false≢true, not-false}
@@ -8,37 +8,39 @@ use Rattle.std.proofs.lemmas.Option.{same_Some}
 use Rattle.std.proofs.lemmas.Slice.Eq.{bytes_eq-Decides}
 use Rattle.c2_spec.specs.C2pa.Manifest.{Manifest, Superbox, is_manifest_label}
 use Rattle.c2_spec.specs.Jumbf.Boxes.{any_label, node}
-use Rattle.c2_spec.specs.Jumbf.Tree.{IsLabel, IsLegalTree, Tree, Trees, leaf, super, tree_label}
+use Rattle.c2_spec.specs.Jumbf.Tree.{Tree, Trees, leaf, super}
 use Rattle.c2_spec.specs.declared.assertion.Relationship.TheVariants.{ComponentOf, ParentOf}
 use Rattle.c2_spec.specs.declared.digest.Alg.{Alg}
 use Rattle.c2_rules.specs.Chains.{is_reached, label_in, place_of}
 use Rattle.c2_rules.specs.Readings.{Reading, claim_in, claim_names}
 use Rattle.c2_rules.specs.Rules.{claim_tests, rest_tests, unjudged_tests}
-use Rattle.c2_rules.proofs.ListLemmas.{both_true, contains_head, contains_tail}
+use Rattle.c2_rules.proofs.ListLemmas.{contains_head, contains_tail}
 use Rattle.c2_rules.proofs.ReachLemmas.{place_is}
 use Rattle.c2_chain_spec.specs.Joined.{joined, joined_roots, place_in}
 use Rattle.c2_chain_spec.specs.Rooted.{IsRooted, is_reached_from, last_roots, seen_by}
 use Rattle.c2_chain_spec.specs.Rooted.IsReachedFrom.{is_root}
 use Rattle.c2_chain_spec.proofs.Joining.{to_roots}
-use Rattle.c2_chain_spec.proofs.Places.{some_at}
 use Rattle.c2_chain_spec.proofs.Rooting.{last_active}
 use Rattle.c2_definition.specs.declared.types.Definition.{Definition}
-use Rattle.c2_new_store_spec.specs.FreshBoxes.{contents_of}
-use Rattle.c2_new_store_spec.specs.Manifests.{is_signature_box, manifest_of, superbox_of, supers_in, supers_of}
-use Rattle.c2_new_store_spec.specs.Store.{NamedManifest, NewIngredient}
-use Rattle.c2_new_store_spec.specs.Written.{AreIngredients}
-use Rattle.c2_new_store_spec.proofs.Conditions.{Holds, all_each}
-use Rattle.c2_new_store_spec.proofs.Lists.{each-front}
-use Rattle.c2_parent_spec.specs.Less.{IsReadLess, RedactedStoreIsRead}
-use Rattle.c2_parent_spec.specs.Redacting.{redacted_boxes}
-use Rattle.c2_parent_spec.proofs.Places.{LessAt, less_at, less_label, less_len}
-use Rattle.c2_parent_spec.proofs.Stores.{label_some, legal_at, read_label, read_len}
+use Rattle.c2_new_file_spec.specs.FreshBoxes.{contents_of}
+use Rattle.c2_new_file_spec.specs.Manifests.{is_signature_box, manifest_of, superbox_of, supers_in, supers_of}
+use Rattle.c2_new_file_spec.specs.Store.{NamedManifest, NewIngredient}
+use Rattle.c2_new_file_spec.specs.Written.{AreIngredients}
+use Rattle.c2_new_file_spec.proofs.Conditions.{Holds, all_each}
+use Rattle.c2_new_file_spec.specs.Less.{IsReadLess, RedactedStoreIsRead}
+use Rattle.c2_new_file_spec.specs.Redacting.{redacted_boxes}
+use Rattle.c2_new_file_spec.proofs.Places.{LessAt, less_at, less_label, less_len}
+use Rattle.c2_new_file_spec.proofs.Stores.{label_some, legal_at, read_label, read_len}
 use Rattle.c2_new_content_spec.specs.Taken.{IsRoot}
 use Rattle.c2_collect_spec.specs.Collected.{CanJoin, CollectedContentIsOne, IsNamedAt, SomeContentCollects, collected_boxes, collected_ingredients, collected_readings, collected_roots}
 use Rattle.c2_collect_spec.specs.Sides.{DoNotClash, joined_boxes}
 use Rattle.c2_collect_spec.specs.Stores.{IsRootedStore}
-use Rattle.c2_collect_spec.proofs.Stores.{JoiningLaws, rooted_join}
+use Rattle.c2_collect_spec.proofs.Stores.{rooted_join}
 use Rattle.c2_collect_spec.proofs.Zips.{Reads, reads_zip}
+use Rattle.c2_lemmas.proofs.Bools.{both_true}
+use Rattle.c2_lemmas.proofs.Each.{each_front}
+use Rattle.c2_lemmas.proofs.Options.{some_at}
+use Rattle.c2_new_file_spec.proofs.Valid.{legal_label, same_label, some_found}
 
 -- ---- the joined store
 
@@ -51,18 +53,19 @@ pub apart_from : (hash : Alg → List ℕ → List ℕ) (old other : Trees) (old
     → CanJoin hash old other old_rs other_rs
     → DoNotClash (supers_in old) (is_reached_from old_rs (last_roots old_rs)) (supers_in other) (is_reached_from other_rs (last_roots other_rs))
 apart_from hash old other old_rs other_rs can =
-    subst (λ f. DoNotClash (supers_in old) f (supers_in other) (is_reached_from other_rs (last_roots other_rs))) (same_reached old_rs)
+    subst (λ f. DoNotClash (supers_in old) f (supers_in other) (is_reached_from other_rs (last_roots other_rs)))
+    (same_reached old_rs)
     (subst (λ f. DoNotClash (supers_in old) (is_reached old_rs) (supers_in other) f) (same_reached other_rs) can.apart)
 
 -- the joined boxes are a store that can be joined again
-pub joined_store : JoiningLaws → (hash : Alg → List ℕ → List ℕ) (old other : Trees) (old_rs other_rs : List Reading)
+pub joined_store : (hash : Alg → List ℕ → List ℕ) (old other : Trees) (old_rs other_rs : List Reading)
     → CanJoin hash old other old_rs other_rs
     → IsRootedStore hash (collected_boxes old other other_rs) (collected_readings old_rs other_rs) (collected_roots old_rs other_rs)
-joined_store laws hash old other old_rs other_rs can =
+joined_store hash old other old_rs other_rs can =
     subst
     (λ f. IsRootedStore hash (joined_boxes old f other) (joined old_rs f other_rs) (joined_roots (last_roots old_rs) other_rs (last_roots other_rs) (joined old_rs f other_rs)))
     (sym (same_reached other_rs))
-    (rooted_join laws hash old other old_rs other_rs (last_roots old_rs) (last_roots other_rs) can.old_store can.other_store (apart_from hash old other old_rs other_rs can))
+    (rooted_join hash old other old_rs other_rs (last_roots old_rs) (last_roots other_rs) can.old_store can.other_store (apart_from hash old other old_rs other_rs can))
 
 -- ---- what an ingredient names
 
@@ -78,26 +81,17 @@ zip_from : {A B : Type 0} (R : A → B → Type 0) (xs : List A) (ys : List B) (
 zip_from R [] [] i x h e = absurd (cc (e))
 zip_from R [] (y ∷ ys) i x h e = absurd h
 zip_from R (z ∷ xs) [] i x h e = absurd h
-zip_from R (z ∷ xs) (y ∷ ys) zero x h e = record { it = y; is = refl; corresponds = subst (λ w. R w y) (same_Some z x e) h.0 }
+zip_from R (z ∷ xs) (y ∷ ys) zero x h e =
+    record { it = y; is = refl; corresponds = subst (λ w. R w y) (same_Some z x e) h.0 }
 zip_from R (z ∷ xs) (y ∷ ys) (suc i) x h e =
     let at = zip_from R xs ys i x h.1 e in record { it = at.it; is = at.is; corresponds = at.corresponds }
-
--- both ways of telling a label are one
-same_label : (t : Tree) → tree_label t ≡ any_label (node t)
-same_label (leaf b) = refl
-same_label (super wide d us) = refl
-
--- the label of a legal box
-legal_label : (depth : ℕ) (t : Tree) (l : List ℕ) → IsLegalTree depth t → any_label (node t) ≡ Some l → IsLabel l
-legal_label depth (leaf b) l h e = absurd (cc (e))
-legal_label depth (super wide d us) l h e = subst (λ o. IfSome o IsLabel) e h.1.fields.label
 
 -- contents are told one way
 same_contents : (t : Tree) → (manifest_of t).contents ≡ contents_of t
 same_contents (leaf b) = refl
 same_contents (super wide d us) = refl
 
--- of a box too
+-- the contents of a box are told one way
 box_contents : (t : Tree) → (superbox_of t).contents ≡ contents_of t
 box_contents (leaf b) = refl
 box_contents (super wide d us) = refl
@@ -107,7 +101,7 @@ record IsAtRoot (redacts : List (List ℕ)) (rs ss : List Reading) (t : Tree) (r
   pair : LessAt redacts rs ss root
   reads : Reads t pair.new
 
--- it is there
+-- a manifest at a root is there in the store less what redactions took out of it
 at_root : (redacts : List (List ℕ)) (boxes : Trees) (rs : List Reading) (t : Tree) (root : ℕ)
     → (k : IsReadLess redacts boxes rs) → root < length rs
     → slice_get (supers_in (redacted_boxes redacts boxes)) root ≡ Some t → IsAtRoot redacts rs k.ss t root
@@ -123,13 +117,17 @@ root_is : (hash : Alg → List ℕ → List ℕ) (redacts : List (List ℕ)) (bo
     → (k : IsReadLess redacts boxes rs) → IsRooted hash rs all → root < length rs
     → IsNamedAt p (supers_in (redacted_boxes redacts boxes)) root → IsRoot rs k.ss p root
 root_is hash redacts boxes all rs p root k rooted within h =
-    let at : IsAtRoot redacts rs k.ss h.manifest root = at_root redacts boxes rs h.manifest root k within h.is_manifest in
+    let at : IsAtRoot redacts rs k.ss h.manifest root =
+    at_root redacts boxes rs h.manifest root k within h.is_manifest in
     let named : label_in at.pair.new ≡ p.label =
     same_Some (label_in at.pair.new) p.label
     (sym (read_label h.manifest at.pair.new at.reads.0 at.reads.1) ∙ same_label h.manifest ∙ h.label) in
-    let label : label_in at.pair.old ≡ p.label = sym (less_label redacts at.pair.old at.pair.new at.pair.less) ∙ named in
+    let label : label_in at.pair.old ≡ p.label =
+    sym (less_label redacts at.pair.old at.pair.new at.pair.less) ∙ named in
     record {
-      place = subst (λ (l : List ℕ). place_of rs l ≡ Some root) label (place_is rs root at.pair.old rooted.differ at.pair.is_old);
+      place =
+          subst (λ (l : List ℕ). place_of rs l ≡ Some root) label
+          (place_is rs root at.pair.old rooted.differ at.pair.is_old);
       within = within;
       named = at.pair.new;
       is_named = at.pair.is_new;
@@ -137,11 +135,13 @@ root_is hash redacts boxes all rs p root k rooted within h =
       signed = ap (λ (m : Manifest). option_map (λ (b : Superbox). b.contents) m.signature) at.reads.0.same
           ∙ ap (λ o. option_map (λ (b : Superbox). b.contents) (option_map superbox_of o)) h.is_signature
           ∙ ap (λ (x : List ℕ). Some x) (box_contents h.signature ∙ h.signed);
-      label = legal_label 2 h.manifest p.label (legal_at (redacted_boxes redacts boxes) 2 root h.manifest k.legal h.is_manifest) h.label;
+      label =
+          legal_label 2 h.manifest p.label
+          (legal_at (redacted_boxes redacts boxes) 2 root h.manifest k.legal h.is_manifest) h.label;
       names = subst (λ o. is_manifest_label o ≡ true) h.label at.reads.1.label;
     }
 
--- so those at all roots are
+-- the manifests at all roots are such as ingredients may name
 pub roots_are : (hash : Alg → List ℕ → List ℕ) (redacts : List (List ℕ)) (boxes : Trees) (all : List ℕ) (rs : List Reading)
     (ps : List NamedManifest) (roots : List ℕ)
     → (k : IsReadLess redacts boxes rs) → IsRooted hash rs all
@@ -158,7 +158,8 @@ roots_are hash redacts boxes all rs (p ∷ ps) (n ∷ ns) k rooted within h =
 
 -- the second label isn't the first
 second_label : (l : List ℕ) → l ≡ codes "c2pa.ingredient.v3__1" → l ≢ codes "c2pa.ingredient.v3"
-second_label l e f = false≢true ((bytes_eq-Decides (codes "c2pa.ingredient.v3__1") (codes "c2pa.ingredient.v3")).1 (sym e ∙ f))
+second_label l e f =
+    false≢true ((bytes_eq-Decides (codes "c2pa.ingredient.v3__1") (codes "c2pa.ingredient.v3")).1 (sym e ∙ f))
 
 -- two ingredients under labels that differ, of which the second is no parent
 two_ok : (l m : List ℕ) (p q : NamedManifest) → l ≡ codes "c2pa.ingredient.v3" → m ≡ codes "c2pa.ingredient.v3__1"
@@ -172,7 +173,7 @@ one_ok : (l : List ℕ) (q : NamedManifest) → l ≡ codes "c2pa.ingredient.v3"
     → AreIngredients (record { label = l; relationship = ComponentOf; of = q } ∷ [])
 one_ok l q e = record { labels = (inl e, tt); apart = (tt, tt); parents = lit≤ tt }
 
--- those of one or two manifests may be had
+-- a manifest may have the ingredients of one or two manifests
 pub ingredients_ok : (ps : List NamedManifest) → AreIngredients (collected_ingredients ps)
 ingredients_ok [] = record { labels = tt; apart = tt; parents = lit≤ tt }
 ingredients_ok (q ∷ []) = one_ok (codes "c2pa.ingredient.v3") q refl
@@ -197,7 +198,7 @@ one_root : (rs : List Reading) → length (last_roots rs) ≤ 1
 one_root [] = lit≤ tt
 one_root (r ∷ rs) = lit≤ tt
 
--- and of those that are placed
+-- no more roots of the other store are placed than it has
 placed_len : (js other_rs : List Reading) (ns : List ℕ) → length (filter_map (place_in js other_rs) ns) ≤ length ns
 placed_len js other_rs [] = lit≤ tt
 placed_len js other_rs (n ∷ ns) = step (place_in js other_rs n) (placed_len js other_rs ns)
@@ -207,7 +208,7 @@ placed_len js other_rs (n ∷ ns) = step (place_in js other_rs n) (placed_len js
     step None h = omega (arith, h)
     step (Some k) h = omega (arith, h)
 
--- so there are at most two
+-- there are at most two roots of both stores
 pub two_roots : (old_rs other_rs : List Reading) → length (collected_roots old_rs other_rs) ≤ 2
 two_roots old_rs other_rs =
     let js : List Reading = collected_readings old_rs other_rs in
@@ -219,22 +220,18 @@ two_roots old_rs other_rs =
 
 -- ---- there is a content
 
--- a box that is seen was found
-some_found : (o : Option Tree) → is_some (option_map superbox_of o) ≡ true → (s : Tree) × (o ≡ Some s)
-some_found None e = absurd (false≢true e)
-some_found (Some s) e = (s, refl)
-
 -- a manifest of which the rules hold has a signature box
 signed_at : (hash : Alg → List ℕ → List ℕ) (rs : List Reading) (roots : List ℕ) (i : ℕ) (r : Reading)
     → AllByRecursion Holds (unjudged_tests hash (seen_by (is_reached_from rs roots) rs i r))
     → is_some r.manifest.signature ≡ true
 signed_at hash rs roots i r h =
     let front : AllByRecursion Holds (claim_tests r) =
-    each-front Holds (claim_tests r) (rest_tests hash (seen_by (is_reached_from rs roots) rs i r)) h in
+    each_front Holds (claim_tests r) (rest_tests hash (seen_by (is_reached_from rs roots) rs i r)) h in
     (both_true (is_some r.manifest.signature) (claim_names r.manifest.label (claim_in r)) (not-false _ front.1.1.1.1.1.0)).0
 
--- so has what is left of it
-still_signed : (redacts : List (List ℕ)) (rs ss : List Reading) (t : Tree) (root : ℕ) → (at : IsAtRoot redacts rs ss t root)
+-- what is left of a manifest with a signature box has a signature box
+still_signed : (redacts : List (List ℕ)) (rs ss : List Reading) (t : Tree) (root : ℕ)
+    → (at : IsAtRoot redacts rs ss t root)
     → is_some at.pair.old.manifest.signature ≡ true
     → is_some (option_map superbox_of (find is_signature_box (supers_of t))) ≡ true
 still_signed redacts rs ss t root at h =
@@ -252,7 +249,7 @@ named_at ms root t box is named found = (
   record { manifest = t; is_manifest = is; label = label_some (any_label (node t)) named; contents = refl; signature = box; is_signature = found; signed = refl },
 )
 
--- so can the one at a root
+-- the manifest at a root can be an ingredient's
 root_named : (hash : Alg → List ℕ → List ℕ) (redacts : List (List ℕ)) (boxes : Trees) (all : List ℕ) (rs : List Reading)
     (root : ℕ)
     → (k : IsReadLess redacts boxes rs) → IsRooted hash rs all → root < length rs → Contains all root
@@ -269,7 +266,7 @@ root_named hash redacts boxes all rs root k rooted within c =
     let box = some_found (find is_signature_box (supers_of t.0)) (still_signed redacts rs k.ss t.0 root at signed) in
     named_at vs root t.0 box.0 t.1 at.reads.1.label box.1
 
--- those at all roots can
+-- the manifests at all roots can be named
 roots_named : (hash : Alg → List ℕ → List ℕ) (redacts : List (List ℕ)) (boxes : Trees) (all : List ℕ) (rs : List Reading)
     (roots : List ℕ)
     → IsReadLess redacts boxes rs → IsRooted hash rs all → AllByRecursion (λ c. c < length rs) roots
@@ -278,18 +275,20 @@ roots_named : (hash : Alg → List ℕ → List ℕ) (redacts : List (List ℕ))
 roots_named hash redacts boxes all rs [] k rooted within in_all = ([], tt)
 roots_named hash redacts boxes all rs (n ∷ ns) k rooted within in_all =
     let first = root_named hash redacts boxes all rs n k rooted within.0 (in_all n (contains_head n ns)) in
-    let others = roots_named hash redacts boxes all rs ns k rooted within.1 (λ c h. in_all c (contains_tail n c ns h)) in
+    let others =
+    roots_named hash redacts boxes all rs ns k rooted within.1 (λ c h. in_all c (contains_tail n c ns h)) in
     (first.0 ∷ others.0, (first.1, others.1))
 
--- so something goes into the new store
-pub some_collects : JoiningLaws → RedactedStoreIsRead → SomeContentCollects
-some_collects laws less hash d old other old_rs other_rs can =
+-- something goes into a new store that collects
+pub some_collects : RedactedStoreIsRead → SomeContentCollects
+some_collects less hash d old other old_rs other_rs can =
     let js : List Reading = collected_readings old_rs other_rs in
     let roots : List ℕ = collected_roots old_rs other_rs in
     let boxes : Trees = collected_boxes old other other_rs in
-    let s : IsRootedStore hash boxes js roots = joined_store laws hash old other old_rs other_rs can.joins in
+    let s : IsRootedStore hash boxes js roots = joined_store hash old other old_rs other_rs can.joins in
     let ps =
-    roots_named hash d.redact boxes roots js roots (less d.redact boxes js s.legal s.stores s.reads) s.rooted s.rooted.within
+    roots_named hash d.redact boxes roots js roots (less d.redact boxes js s.legal s.stores s.reads) s.rooted
+    s.rooted.within
     (λ c h. h) in (
       record { definition = d; carried = redacted_boxes d.redact boxes; ingredients = collected_ingredients ps.0 },
       record { definition = refl; carried = refl; named = ps.0; are = ps.1; ingredients = refl },
@@ -312,7 +311,7 @@ one_named ms root p q a b =
     ∙ ap (λ (c : List ℕ). record { label = q.label; contents = c; signed = p.signed }) contents
     ∙ ap (λ (s : List ℕ). record { label = q.label; contents = q.contents; signed = s }) signed
 
--- those at places are
+-- the manifests at places are one each
 one_each : (ms : List Tree) (roots : List ℕ) (ps qs : List NamedManifest)
     → AllZip (λ (p : NamedManifest) root. IsNamedAt p ms root) ps roots
     → AllZip (λ (p : NamedManifest) root. IsNamedAt p ms root) qs roots → ps ≡ qs
@@ -322,9 +321,10 @@ one_each ms [] (p ∷ ps) qs h k = absurd h
 one_each ms (n ∷ ns) [] qs h k = absurd h
 one_each ms (n ∷ ns) (p ∷ ps) [] h k = absurd k
 one_each ms (n ∷ ns) (p ∷ ps) (q ∷ qs) h k =
-    ap (λ x. x ∷ ps) (one_named ms n p q h.0 k.0) ∙ ap (λ (xs : List NamedManifest). q ∷ xs) (one_each ms ns ps qs h.1 k.1)
+    ap (λ x. x ∷ ps) (one_named ms n p q h.0 k.0)
+    ∙ ap (λ (xs : List NamedManifest). q ∷ xs) (one_each ms ns ps qs h.1 k.1)
 
--- so is all that goes into the new store
+-- all that goes into a new store that collects is one
 pub content_one : CollectedContentIsOne
 content_one d old other old_rs other_rs b c h k =
     let carried : b.carried ≡ c.carried = h.carried ∙ sym k.carried in

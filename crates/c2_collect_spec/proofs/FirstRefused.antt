@@ -1,4 +1,4 @@
--- Of redactions of a chain the first that is refused is answered.
+-- The redaction of a chain that is answered as refused is the first that is refused.
 use Rattle.std.proofs.Common.{◌≡◌, ℕ, Bool, zero, suc, ◌<◌, List, [], ◌∷◌, ◌++◌, take, Option, Some, None, slice_get, refl, sym, ap, subst, ◌∙◌, arith}
 use Rattle.std.proofs.lemmas.List.{append-nil, append_assoc}
 use Rattle.std.proofs.lemmas.Option.{same_Some}
@@ -7,8 +7,8 @@ use Rattle.std.specs.Option.{option_or}
 use Rattle.c2_rules.specs.Readings.{Reading}
 use Rattle.c2_rules.specs.Tests.{first_failing}
 use Rattle.c2_rules.specs.declared.answer.Failing.{Failing}
-use Rattle.c2_parent_spec.specs.Refusing.{refused_by}
-use Rattle.c2_parent_spec.specs.declared.refused.RefusedRedaction.{RefusedRedaction}
+use Rattle.c2_new_file_spec.specs.Refusing.{refused_by}
+use Rattle.c2_new_file_spec.specs.declared.refused.RefusedRedaction.{RefusedRedaction}
 use Rattle.c2_collect_spec.specs.Refusals.{FirstRedactionIsLeastBy, IsFirstRefusedBy, entry_tests_by, refusal_after_by}
 
 -- what is answered of a redaction behind these
@@ -18,9 +18,10 @@ failing_of reached own rs before text = first_failing (entry_tests_by reached ow
 -- a redaction that stands first has what stands before the list before it
 first_of : (reached : ℕ → Bool) (own : List ℕ) (rs : List Reading) (before : List (List ℕ)) (text : List ℕ) (o : Option Failing)
     → failing_of reached own rs before text ≡ o → failing_of reached own rs (before ++ []) text ≡ o
-first_of reached own rs before text o e = ap (λ other_rs. failing_of reached own rs other_rs text) (append-nil before) ∙ e
+first_of reached own rs before text o e =
+    ap (λ other_rs. failing_of reached own rs other_rs text) (append-nil before) ∙ e
 
--- one that stands behind another has this before it too
+-- a redaction that stands behind another has what stands before the list, with that other, before it
 behind_of : (reached : ℕ → Bool) (own : List ℕ) (rs : List Reading) (before : List (List ℕ)) (one : List ℕ)
     (taken : List (List ℕ)) (text : List ℕ) (o : Option Failing)
     → failing_of reached own rs ((before ++ one ∷ []) ++ taken) text ≡ o

@@ -1,4 +1,11 @@
 -- A file that a build comes to whose new store collects from two files meets all that is said of it.
+use Rattle.c2_collect_spec.proofs.Collecting.{all_approved}
+use Rattle.c2_collect_spec.proofs.Whole.{each_meets}
+use Rattle.c2_definition.proofs.TheLaws.{definitions_are_well_formed}
+use Rattle.c2_new_file_spec.proofs.FileLaws.{a_place_is_one}
+use Rattle.c2_new_content_spec.proofs.OverLaws.{a_valid_store_is_approved}
+use Rattle.c2_chain_spec.proofs.ChainLaws.{a_store_is_rooted_at_its_last_manifest}
+use Rattle.c2_new_content_spec.proofs.SplitLaws.{a_file_at_a_split_keeps_its_bytes_left}
 use Rattle.std.proofs.Common.{◌≡◌, ◌⊎◌, inl, inr, ⊎_elim, ℕ, ◌+◌, ◌<◌, ◌≤◌, List, [], ◌∷◌, ◌++◌, length, Option, None, Contains, refl, sym, ap, ◌∙◌, subst, arith}
 use Rattle.std.specs.Prelude.{Result, Ok}
 use Rattle.std.specs.List.{AllByRecursion}
@@ -19,15 +26,13 @@ use Rattle.c2_rules.specs.Validated.{IsAnswer}
 use Rattle.c2_rules.specs.declared.answer.Answer.TheVariants as answers
 use Rattle.c2_rules.specs.declared.answer.Summary.{Summary}
 use Rattle.c2_rules.proofs.FirstLemmas.{all_hold, none_fails}
-use Rattle.c2_chain_spec.specs.Rooted.{StoreIsRooted}
-use Rattle.c2_new_over_spec.specs.Over.{ValidIsApproved}
+use Rattle.c2_new_content_spec.specs.Over.{ValidIsApproved}
 use Rattle.c2_definition.specs.declared.types.Definition.{Definition}
 use Rattle.c2_new_signature.specs.Signed.{IsSigned}
-use Rattle.c2_new_store_spec.specs.Store.{Content, range_at}
-use Rattle.c2_new_file_spec.specs.Laws.{OnePlace}
+use Rattle.c2_new_file_spec.specs.Store.{Content, range_at}
 use Rattle.c2_new_file_spec.specs.Places.{IsFreePlace, IsPlace, Place, place_start, range_len, store_len}
-use Rattle.c2_new_split_spec.specs.Kept.{KeepsBytes, KeepsOutside, LeftKeeps}
-use Rattle.c2_collect_spec.specs.Collected.{AreApproved, CollectsFrom, IsOfEither, QuestionsAreApproved}
+use Rattle.c2_new_content_spec.specs.Kept.{KeepsBytes, KeepsOutside, LeftKeeps}
+use Rattle.c2_collect_spec.specs.Collected.{AreApproved, CollectsFrom, IsOfEither}
 use Rattle.c2_collect_spec.specs.Files.{collected_signed}
 use Rattle.c2_collect_spec.specs.Made.{HasTextsIn, IsAskedBy, MadeCollectedMeets, embedded_range}
 use Rattle.c2_collect_spec.specs.Order.{CanCollectPair, CollectRefusal, FilePair, IsCollectedFile, IsMediaFile, IsOtherFile, IsValidAnswer, MediaFile, OtherFile}
@@ -35,9 +40,9 @@ use Rattle.c2_collect_spec.specs.Order.{pair_readings, reserve_refusals}
 use Rattle.c2_collect_spec.specs.Outcomes.{CollectGround, IsCollectMade, IsCollectPlanned, IsDefinitionStage, IsGroundStage, IsMadeOn, IsMadeOver, IsMediaStage, IsMessageStage, IsNewFile}
 use Rattle.c2_collect_spec.specs.Outcomes.{IsPairStage, IsPlannedOn, IsPlannedOver, IsPutIn, NewFile, ground_refusals, ground_signed, new_file}
 use Rattle.c2_collect_spec.specs.Stores.{IsAcceptedFile}
-use Rattle.c2_collect_spec.specs.Whole.{EachCollectedFileMeets, MeetsCollected, pair_questions}
+use Rattle.c2_collect_spec.specs.Whole.{MeetsCollected, pair_questions}
 use Rattle.c2_collect_spec.proofs.Order.{both_none, file_fits, none_failing, pair_collects}
-use Rattle.c2_collect_spec.proofs.SomeOutcome.{AreWellFormed, IsPairPassed, LeftLaws, defined_of, free_place, opened_as, pair_passed, read_taken}
+use Rattle.c2_collect_spec.proofs.SomeOutcome.{IsPairPassed, defined_of, free_place, opened_as, pair_passed, read_taken}
 use Rattle.c2_collect_spec.proofs.Stages.{passed, then_next, unless_passed, unless_passes}
 
 -- ---- what is known
@@ -76,7 +81,8 @@ record Known (hash : Alg → List ℕ → List ℕ) (said : Question → Verdict
   made : IsMadeOf hash d parts b (ground_with pair content place)
 
 -- what passed the tests of the new file
-made_of : (hash : Alg → List ℕ → List ℕ) (d : Definition) (parts : SignParts) (b : NewFile) (g : CollectGround) → IsMadeOn hash d parts g (Ok b) → IsMadeOf hash d parts b g
+made_of : (hash : Alg → List ℕ → List ℕ) (d : Definition) (parts : SignParts) (b : NewFile) (g : CollectGround)
+    → IsMadeOn hash d parts g (Ok b) → IsMadeOf hash d parts b g
 made_of hash d parts b g h =
     let p = unless_passed (ground_refusals d g ++ reserve_refusals d parts) (IsNewFile hash d parts g) b h in
     let none = both_none (ground_refusals d g) (reserve_refusals d parts) p.0 in
@@ -86,8 +92,10 @@ made_of hash d parts b g h =
 same_value : (g k : CollectGround) → ◌≡◌ {A = Result CollectGround CollectRefusal} (Ok g) (Ok k) → g ≡ k
 same_value g k e = cc (e)
 
--- so much is known
-known : (hash : Alg → List ℕ → List ℕ) (said : Question → Verdict) (media definition message other : List ℕ) (b : NewFile) → IsCollectMade hash said media definition message other (Ok b)
+-- this much is known of a build that comes to a file
+known :
+    (hash : Alg → List ℕ → List ℕ) (said : Question → Verdict) (media definition message other : List ℕ) (b : NewFile)
+    → IsCollectMade hash said media definition message other (Ok b)
     → Known hash said media definition message other b
 known hash said media definition message other b h =
     let one = passed (IsMediaStage media) _ b h in
@@ -110,7 +118,9 @@ known hash said media definition message other b h =
       content = c;
       place = place;
       ground = record { collects = five.first.1; is_place = five.first.2.1 };
-      made = subst (IsMadeOf hash d three.value b) (same_value five.value (ground_with four.value c place) five.first.2.2) (made_of hash d three.value b five.value five.next);
+      made =
+          subst (IsMadeOf hash d three.value b) (same_value five.value (ground_with four.value c place) five.first.2.2)
+          (made_of hash d three.value b five.value five.next);
     }
 
 -- what is signed of the file is what is planned
@@ -128,30 +138,41 @@ planned_of hash said media definition message other b k =
 -- ---- the judges
 
 -- judges approve the questions of the media's store, of which no rule fails
-media_approved : ValidIsApproved → (hash : Alg → List ℕ → List ℕ) (said : Question → Verdict) (file : List ℕ) (what : Opening Tree) (m : MediaFile) → IsMediaFile hash said file what m
+media_approved : ValidIsApproved
+    → (hash : Alg → List ℕ → List ℕ) (said : Question → Verdict) (file : List ℕ) (what : Opening Tree) (m : MediaFile)
+    → IsMediaFile hash said file what m
     → m.failing ≡ None → AreApproved said (questions m.readings)
 media_approved law hash said file (refused reason number) m is none = absurd is
-media_approved law hash said file absent m is none = subst (λ (x : MediaFile). AreApproved said (questions x.readings)) (sym is) tt
+media_approved law hash said file absent m is none =
+    subst (λ (x : MediaFile). AreApproved said (questions x.readings)) (sym is) tt
 media_approved law hash said file (here start len t) m is none =
     subst (λ (rs : List Reading). AreApproved said (questions rs)) (sym is.readings)
     (law hash said is.reading (all_hold (check_list hash said is.reading) (sym is.failing ∙ none)))
 
--- and those of the other file, which is valid
-other_approved : ValidIsApproved → (hash : Alg → List ℕ → List ℕ) (said : Question → Verdict) (file : List ℕ) (what : Opening Tree) (o : OtherFile) → IsOtherFile hash said file what o
+-- judges approve the questions of the other file, which is valid
+other_approved : ValidIsApproved
+    → (hash : Alg → List ℕ → List ℕ) (said : Question → Verdict) (file : List ℕ) (what : Opening Tree) (o : OtherFile)
+    → IsOtherFile hash said file what o
     → IsValidAnswer o.answer → AreApproved said (questions o.readings)
 other_approved law hash said file (refused reason number) o is valid =
-    let bad : answers.Refused reason number ≡ answers.Valid valid.0 = sym (ap (λ (x : OtherFile). x.answer) is) ∙ valid.1 in absurd (cc (bad))
+    let bad : answers.Refused reason number ≡ answers.Valid valid.0 =
+    sym (ap (λ (x : OtherFile). x.answer) is) ∙ valid.1 in absurd (cc (bad))
 other_approved law hash said file absent o is valid =
-    let bad : answers.NoStore ≡ answers.Valid valid.0 = sym (ap (λ (x : OtherFile). x.answer) is) ∙ valid.1 in absurd (cc (bad))
+    let bad : answers.NoStore ≡ answers.Valid valid.0 =
+    sym (ap (λ (x : OtherFile). x.answer) is) ∙ valid.1 in absurd (cc (bad))
 other_approved law hash said file (here start len t) o is valid =
-    let none = none_failing (summary_of (length file) start len is.reading) valid.0 (first_failing (check_list hash said is.reading)) (sym is.answer ∙ valid.1) in
+    let none =
+    none_failing (summary_of (length file) start len is.reading) valid.0
+    (first_failing (check_list hash said is.reading)) (sym is.answer ∙ valid.1) in
     subst (λ (rs : List Reading). AreApproved said (questions rs)) (sym is.readings)
     (law hash said is.reading (all_hold (check_list hash said is.reading) none))
 
 -- ---- the questions
 
 -- a question of the media's store is asked of the media file
-media_asks : (hash : Alg → List ℕ → List ℕ) (said : Question → Verdict) (file : List ℕ) (what : Opening Tree) (m : MediaFile) → IsOpened file what → IsMediaFile hash said file what m
+media_asks :
+    (hash : Alg → List ℕ → List ℕ) (said : Question → Verdict) (file : List ℕ) (what : Opening Tree) (m : MediaFile)
+    → IsOpened file what → IsMediaFile hash said file what m
     → (q : Question) → Contains (questions m.readings) q → IsAskedBy file q
 media_asks hash said file (refused reason number) m opened is q held = absurd is
 media_asks hash said file absent m opened is q held =
@@ -159,8 +180,10 @@ media_asks hash said file absent m opened is q held =
 media_asks hash said file (here start len t) m opened is q held =
     (questions m.readings, (here start len t, opened, (is.reading.readings, is.reads.reads.each, ap questions is.readings)), held)
 
--- and one of the other's is asked of the other file
-other_asks : (hash : Alg → List ℕ → List ℕ) (said : Question → Verdict) (file : List ℕ) (what : Opening Tree) (o : OtherFile) → IsOpened file what → IsOtherFile hash said file what o
+-- a question of the other file's store is asked of the other file
+other_asks :
+    (hash : Alg → List ℕ → List ℕ) (said : Question → Verdict) (file : List ℕ) (what : Opening Tree) (o : OtherFile)
+    → IsOpened file what → IsOtherFile hash said file what o
     → (q : Question) → Contains (questions o.readings) q → IsAskedBy file q
 other_asks hash said file (refused reason number) o opened is q held =
     (questions o.readings, (refused reason number, opened, ap (λ (x : OtherFile). questions x.readings) is), held)
@@ -169,9 +192,11 @@ other_asks hash said file absent o opened is q held =
 other_asks hash said file (here start len t) o opened is q held =
     (questions o.readings, (here start len t, opened, (is.reading.readings, is.reads.reads.each, ap questions is.readings)), held)
 
--- so each question of either is asked of one of the files
-all_asked : (media other : List ℕ) (old_rs other_rs : List Reading) → ((q : Question) → Contains (questions old_rs) q → IsAskedBy media q)
-    → ((q : Question) → Contains (questions other_rs) q → IsAskedBy other q) → (qs : List Question) → AllByRecursion (IsOfEither old_rs other_rs) qs
+-- each question of either store is asked of one of the files
+all_asked : (media other : List ℕ) (old_rs other_rs : List Reading)
+    → ((q : Question) → Contains (questions old_rs) q → IsAskedBy media q)
+    → ((q : Question) → Contains (questions other_rs) q → IsAskedBy other q) → (qs : List Question)
+    → AllByRecursion (IsOfEither old_rs other_rs) qs
     → AllByRecursion (λ (q : Question). IsAskedBy media q ⊎ IsAskedBy other q) qs
 all_asked media other old_rs other_rs own theirs [] h = tt
 all_asked media other old_rs other_rs own theirs (q ∷ qs) h =
@@ -179,34 +204,26 @@ all_asked media other old_rs other_rs own theirs (q ∷ qs) h =
 
 -- ---- the file
 
--- what laws of this crate and of others say
-pub record MadeLaws : Type 0 where
-  pub formed : AreWellFormed
-  pub left : LeftLaws
-  pub place : OnePlace
-  pub rooted : StoreIsRooted
-  pub each : EachCollectedFileMeets
-  pub keeps : LeftKeeps
-  pub valid : ValidIsApproved
-  pub approved : QuestionsAreApproved
-
 -- The file is that of the definition's new store, with this content.
 record IsBuiltOf (hash : Alg → List ℕ → List ℕ) (d : Definition) (pair : FilePair) (parts : SignParts) (p : Place) (content : Content) (file : List ℕ) : Type 0 where
   is : IsCollectedFile hash d pair parts p file
   same : is.content ≡ content
 
--- so it is
-built_of : MadeLaws → (hash : Alg → List ℕ → List ℕ) (said : Question → Verdict) (media definition message other : List ℕ) (b : NewFile) → HasTextsIn definition
+-- the new file is that of the definition's new store, with this content
+built_of :
+    (hash : Alg → List ℕ → List ℕ) (said : Question → Verdict) (media definition message other : List ℕ) (b : NewFile)
+    → HasTextsIn definition
     → (k : Known hash said media definition message other b) → IsPairPassed hash said media other k.what k.d k.pair
     → IsBuiltOf hash k.d k.pair k.parts k.place k.content b.file
-built_of l hash said media definition message other b texts k p =
+built_of hash said media definition message other b texts k p =
     let d : Definition = k.d in
     let base : List ℕ = k.pair.media.base in
     let x : Content = k.content in
     let defined = defined_of definition d k.is_d in
     let taken = read_taken d.protected message k.parts k.is_parts in
-    let collects : CanCollectPair hash d k.pair = pair_collects l.rooted hash said d media other k.pair p.is_pair p.none in
-    let free = free_place l.left hash said media k.what k.pair.media (opened_as media k.what k.is_media) p.is_media in
+    let collects : CanCollectPair hash d k.pair =
+    pair_collects a_store_is_rooted_at_its_last_manifest hash said d media other k.pair p.is_pair p.none in
+    let free = free_place hash said media k.what k.pair.media (opened_as media k.what k.is_media) p.is_media in
     let fit = file_fits base x d.reserve (length (pair_readings k.pair) + 1) k.place k.made.unrefused in
     let count = fit.few in
     let built : IsCollectedFile hash d k.pair k.parts k.place b.file = record {
@@ -216,13 +233,13 @@ built_of l hash said media definition message other b texts k p =
       collected = record {
         can = collects.can;
         few = omega (arith, count);
-        written = record { formed = l.formed definition d defined; texts = texts d defined };
+        written = record { formed = definitions_are_well_formed definition d defined; texts = texts d defined };
         content = k.ground.collects;
       };
       message = k.made.padded;
       signed = k.made.filled;
       can = record {
-        place = subst (IsFreePlace base) (l.place base free.0 k.place free.1.is k.ground.is_place) free.1;
+        place = subst (IsFreePlace base) (a_place_is_one base free.0 k.place free.1.is k.ground.is_place) free.1;
         room = fit.room;
         small = subst (λ n. store_len k.place x n ≤ MAX_STORE_LEN) (sym k.made.filled.filled) fit.small;
         fits = subst (λ n. length base + range_len k.place x n < FILE_LEN_LIMIT) (sym k.made.filled.filled) fit.fits;
@@ -234,15 +251,19 @@ built_of l hash said media definition message other b texts k p =
     record { is = built; same = refl }
 
 -- what is left of a media file has all bytes outside the range of its store
-base_keeps : LeftKeeps → (hash : Alg → List ℕ → List ℕ) (said : Question → Verdict) (media : List ℕ) (what : Opening Tree) (m : MediaFile) → IsOpened media what
+base_keeps : LeftKeeps
+    → (hash : Alg → List ℕ → List ℕ) (said : Question → Verdict) (media : List ℕ) (what : Opening Tree) (m : MediaFile)
+    → IsOpened media what
     → IsMediaFile hash said media what m → KeepsOutside media (embedded_range what) m.base
 base_keeps law hash said media (refused reason number) m opened is = absurd is
 base_keeps law hash said media absent m opened is =
-    subst (λ (x : MediaFile). KeepsOutside media None x.base) (sym is) (record { freed = None; only = inl refl; same = refl })
+    subst (λ (x : MediaFile). KeepsOutside media None x.base) (sym is)
+    (record { freed = None; only = inl refl; same = refl })
 base_keeps law hash said media (here start len t) m opened is = law media start len t m.base opened is.left
 
--- so has the new file less its range, where that is what is left
-file_keeps : (media : List ℕ) (old : Option Range) (base file : List ℕ) (start at len count : ℕ) → KeepsOutside media old base
+-- the new file less its range has all bytes of the media outside the range of its store
+file_keeps : (media : List ℕ) (old : Option Range) (base file : List ℕ) (start at len count : ℕ)
+    → KeepsOutside media old base
     → taken_out start len file ≡ base → at ≡ start → count ≡ len → KeepsBytes media old file (range_at at count)
 file_keeps media old base file start at len count h is same_start same_len =
     subst (KeepsOutside media old)
@@ -250,7 +271,8 @@ file_keeps media old base file start at len count h is same_start same_len =
 
 -- the check of an accepted file answers that it is valid
 accepted_answer : (hash : Alg → List ℕ → List ℕ) (said : Question → Verdict) (file : List ℕ) (start len : ℕ) (t : Tree) (s : StoreReading)
-    → IsAcceptedFile hash said file start len t s → (summary : Summary) × IsAnswer hash said file (answers.Valid summary)
+    → IsAcceptedFile hash said file start len t s
+    → (summary : Summary) × IsAnswer hash said file (answers.Valid summary)
 accepted_answer hash said file start len t s h =
     let summary : Summary = summary_of (length file) start len s in (
       summary,
@@ -261,9 +283,9 @@ accepted_answer hash said file start len t s h =
       ),
     )
 
--- so it meets all of it
-pub made_meets : MadeLaws → MadeCollectedMeets
-made_meets l hash said media definition message other b digests texts h = record {
+-- a file that collects meets all that is said of it
+pub made_meets : MadeCollectedMeets
+made_meets hash said media definition message other b digests texts h = record {
   new = k.d;
   defined = defined_of definition k.d k.is_d;
   parts = k.parts;
@@ -281,11 +303,11 @@ made_meets l hash said media definition message other b digests texts h = record
   asked = all_asked media other k.pair.media.readings k.pair.other.readings
       (media_asks hash said media k.what k.pair.media (opened_as media k.what k.is_media) p.is_media)
       (other_asks hash said other p.is_pair.found k.pair.other p.is_pair.is_found p.is_pair.is_other) (pair_questions k.pair) met.either;
-  approved = l.approved hash said k.pair.media.boxes k.pair.other.boxes k.pair.media.readings k.pair.other.readings built.is.collects.can.joins
-      (media_approved l.valid hash said media k.what k.pair.media p.is_media built.is.collects.media)
-      (other_approved l.valid hash said other p.is_pair.found k.pair.other p.is_pair.is_other built.is.collects.other);
+  approved = all_approved hash said k.pair.media.boxes k.pair.other.boxes k.pair.media.readings k.pair.other.readings built.is.collects.can.joins
+      (media_approved a_valid_store_is_approved hash said media k.what k.pair.media p.is_media built.is.collects.media)
+      (other_approved a_valid_store_is_approved hash said other p.is_pair.found k.pair.other p.is_pair.is_other built.is.collects.other);
   kept = file_keeps media (embedded_range p.is_pair.opened) k.pair.media.base b.file (place_start k.place) b.start met.len b.len
-      (base_keeps l.keeps hash said media p.is_pair.opened k.pair.media p.is_pair.is_opened p.is_pair.is_media) met.base start len;
+      (base_keeps a_file_at_a_split_keeps_its_bytes_left hash said media p.is_pair.opened k.pair.media p.is_pair.is_opened p.is_pair.is_media) met.base start len;
   accepted = λ others approved.
       let a = met.accepted others approved in
       accepted_answer hash others b.file (place_start k.place) met.len met.store a.0 a.1;
@@ -298,10 +320,10 @@ made_meets l hash said media definition message other b digests texts h = record
     p = pair_passed hash said media other k.what k.d k.pair k.is_media k.is_pair
 
     built : IsBuiltOf hash k.d k.pair k.parts k.place k.content b.file
-    built = built_of l hash said media definition message other b texts k p
+    built = built_of hash said media definition message other b texts k p
 
     met : MeetsCollected hash k.d built.is.content built.is.message k.pair k.place b.file
-    met = l.each hash k.d k.pair k.parts k.place b.file digests built.is
+    met = each_meets hash k.d k.pair k.parts k.place b.file digests built.is
 
     start : b.start ≡ place_start k.place
     start = ap (λ (f : NewFile). f.start) k.made.same

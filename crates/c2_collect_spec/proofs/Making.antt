@@ -19,11 +19,14 @@ use Rattle.c2_collect_spec.proofs.Order.{both_none, file_unrefused, none_both, p
 use Rattle.c2_collect_spec.proofs.Stages.{then_next, unless_passes}
 
 -- a media file that is something to a new store passes
-media_passes : (hash : Alg → List ℕ → List ℕ) (said : Question → Verdict) (media : List ℕ) (what : Opening Tree) (m : MediaFile) → IsOpened media what → IsMediaFile hash said media what m
+media_passes :
+    (hash : Alg → List ℕ → List ℕ) (said : Question → Verdict) (media : List ℕ) (what : Opening Tree) (m : MediaFile)
+    → IsOpened media what → IsMediaFile hash said media what m
     → IsMediaStage media (Ok what)
 media_passes hash said media what m opened is = (what, opened, by what is)
   where
-    by : (w : Opening Tree) → IsMediaFile hash said media w m → ◌≡◌ {A = Result (Opening Tree) CollectRefusal} (Ok w) (media_stage w)
+    by : (w : Opening Tree) → IsMediaFile hash said media w m
+        → ◌≡◌ {A = Result (Opening Tree) CollectRefusal} (Ok w) (media_stage w)
     by (refused reason number) k = absurd k
     by absent k = refl
     by (here start len t) k = refl
@@ -40,10 +43,11 @@ pair_passes hash said media other d p is none =
     (is.found, is.is_found, (p.other, is.is_other, unless_passes (other_refusals p.other.answer) (λ r. r ≡ Ok p.other) (Ok p.other) theirs.0 refl))
     (p.clash, is.is_clash, unless_passes (joined_refusals d p) (λ r. r ≡ Ok p) (Ok p) theirs.1 refl))
 
--- so the file is made
+-- a file that collects is made where nothing is refused
 pub collected_made : FillsOrNeedsMore → CollectedIsMade
 collected_made fills hash said media definition message other d pair parts p file defined accepted spelled is b =
-    then_next (IsMediaStage media) _ is.opened (Ok new) (media_passes hash said media is.opened pair.media is.is_opened is.is_media)
+    then_next (IsMediaStage media) _ is.opened (Ok new)
+    (media_passes hash said media is.opened pair.media is.is_opened is.is_media)
     (then_next (IsDefinitionStage definition) _ d (Ok new) (Ok d, defined, refl)
     (then_next (IsMessageStage d.protected message) _ parts (Ok new) (Ok parts, (accepted, spelled), refl)
     (then_next (IsPairStage hash said media other is.opened d) (IsMadeOver hash d parts) pair (Ok new)
@@ -63,4 +67,6 @@ collected_made fills hash said media definition message other d pair parts p fil
     new = new_of file d.reserve
 
     same : ◌≡◌ {A = Result NewFile CollectRefusal} (Ok new) (Ok (new_file g (length b.message) b.bytes))
-    same = ap (λ (f : List ℕ). Ok (new_of f d.reserve)) b.is ∙ ap (λ n. Ok (new_of (place_file pair.media.base p b.bytes) n)) (sym b.signed.filled)
+    same =
+        ap (λ (f : List ℕ). Ok (new_of f d.reserve)) b.is
+        ∙ ap (λ n. Ok (new_of (place_file pair.media.base p b.bytes) n)) (sym b.signed.filled)

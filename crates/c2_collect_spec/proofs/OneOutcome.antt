@@ -1,20 +1,20 @@
 -- Two files that are opened as one thing each come to one plan and to one new file.
-use Rattle.std.proofs.Common.{◌≡◌, ◌⊎◌, inl, inr, ℕ, Bool, true, not, ◌&&◌, List, ◌++◌, length, Option, refl, sym, ap, ◌∙◌, subst}
+use Rattle.c2_read_manifests.proofs.TheLaws.{one_reading_store}
+use Rattle.c2_definition.proofs.TheLaws.{each_definition_is_read_one_way_one}
+use Rattle.std.proofs.Common.{◌≡◌, ◌⊎◌, inl, inr, ℕ, List, ◌++◌, length, Option, sym, ap, ◌∙◌, subst}
 use Rattle.std.specs.Prelude.{Result, Ok, Err}
 use Rattle.std.proofs.lemmas.Option.{same_Some}
 use Rattle.c2_base.specs.declared.values.Question.{Question}
-use Rattle.c2_spec.specs.Bmff.Boxes.{begins_bmff}
 use Rattle.c2_spec.specs.C2pa.Manifest.{Manifest, manifests_of}
 use Rattle.c2_spec.specs.C2pa.Sign1.{SignParts, SpellsMessage, message_list}
 use Rattle.c2_spec.specs.Cbor.Item.{Item, tag}
 use Rattle.c2_spec.specs.Cbor.Spelling.{Spells}
-use Rattle.c2_spec.specs.Container.{Container, IsContainer, begins_jpeg, bmff, is_bmff, jpeg}
+use Rattle.c2_spec.specs.Container.{Container}
 use Rattle.c2_spec.specs.Jumbf.Tree.{Tree, Trees}
 use Rattle.c2_spec.specs.Located.{Opening, absent, here, refused}
 use Rattle.c2_spec.specs.declared.digest.Alg.{Alg}
 use Rattle.c2_spec.specs.declared.panel.Verdict.{Verdict}
-use Rattle.c2_spec.proofs.BmffOneList.{roots_once}
-use Rattle.c2_rules.specs.Binding.{IsMedia, Media}
+use Rattle.c2_rules.specs.Binding.{Media}
 use Rattle.c2_rules.specs.Chains.{is_reached}
 use Rattle.c2_rules.specs.CheckList.{IsStoreReading, StoreReading, check_list, store_answer}
 use Rattle.c2_rules.specs.Readings.{Reading}
@@ -28,9 +28,9 @@ use Rattle.c2_definition.specs.declared.types.DefinitionField.{DefinitionField}
 use Rattle.c2_new_signature.specs.Message.{RefusedForOne}
 use Rattle.c2_new_signature.specs.Signed.{FillsOrNeedsMore}
 use Rattle.c2_new_signature.specs.declared.error.SignaturePart.{SignaturePart}
-use Rattle.c2_new_store_spec.specs.Manifests.{supers_in}
-use Rattle.c2_new_store_spec.specs.Store.{Content}
-use Rattle.c2_parent_spec.specs.Redacting.{boxes_in}
+use Rattle.c2_new_file_spec.specs.Manifests.{supers_in}
+use Rattle.c2_new_file_spec.specs.Store.{Content}
+use Rattle.c2_new_file_spec.specs.Redacting.{boxes_in}
 use Rattle.c2_new_file_spec.specs.Laws.{OneLeft, OnePlace}
 use Rattle.c2_new_file_spec.specs.Places.{Place}
 use Rattle.c2_collect_spec.specs.Collected.{CollectedContentIsOne}
@@ -40,12 +40,16 @@ use Rattle.c2_collect_spec.specs.Outcomes.{IsOtherStage, IsPutIn, IsPairStage, I
 use Rattle.c2_collect_spec.specs.Outcomes.{ground_refusals, media_stage, message_stage, new_file, pair_of}
 use Rattle.c2_collect_spec.proofs.Clashes.{one_clash}
 use Rattle.c2_collect_spec.proofs.Stages.{IsOne, one_then, one_unless, one_value}
+use Rattle.c2_cbor_spec.proofs.PlainBack.{one_item}
+use Rattle.c2_rules.proofs.OneMedia.{media_once}
+use Rattle.c2_spec.proofs.OneMessage.{same_parts}
 
 -- ---- what laws of other crates say
 
 -- a file is one definition, or one thing of it is refused first
 abbrev pub OneDefinition : Type 0
-OneDefinition = (file : List ℕ) (r s : Result Definition DefinitionField) → IsDefinition file r → IsDefinition file s → r ≡ s
+OneDefinition =
+    (file : List ℕ) (r s : Result Definition DefinitionField) → IsDefinition file r → IsDefinition file s → r ≡ s
 
 -- bytes spell one item
 abbrev pub OneItem : Type 0
@@ -53,7 +57,8 @@ OneItem = (v w : Item) (s : List ℕ) → Spells v s → Spells w s → v ≡ w
 
 -- the manifests of a media file's store, and the binding of the active one, are read in one way
 abbrev pub OneReadingIn : Type 0
-OneReadingIn = (m : Media) (ms : List Manifest) (s t : StoreReading) → IsStoreReading m ms s → IsStoreReading m ms t → s ≡ t
+OneReadingIn =
+    (m : Media) (ms : List Manifest) (s t : StoreReading) → IsStoreReading m ms s → IsStoreReading m ms t → s ≡ t
 
 -- all of them
 pub record OneLaws : Type 0 where
@@ -68,57 +73,38 @@ pub record OneLaws : Type 0 where
 
 -- ---- a store is read in one way
 
--- no JPEG is read by root boxes
-apart : (file : List ℕ) → begins_jpeg file ≡ true → is_bmff file ≡ true → ⊥
-apart file is also = let none = sym (ap (λ (b : Bool). not b && begins_bmff file) is) ∙ also in cc (none)
-
--- a file has one container
-one_container : (file : List ℕ) (c d : Container) → IsContainer file c → IsContainer file d → c ≡ d
-one_container file jpeg jpeg h k = refl
-one_container file jpeg (bmff b) h k = absurd (apart file h k.0)
-one_container file (bmff a) jpeg h k = absurd (apart file k h.0)
-one_container file (bmff a) (bmff b) h k = ap bmff (roots_once file a b h.1 k.1)
-
 -- media of these
 abbrev media_of : List ℕ → Container → Media
 media_of file c = record { bytes = file; container = c }
 
--- a file is media in one way
-one_media_of : (file : List ℕ) (m n : Media) → IsMedia file m → IsMedia file n → m ≡ n
-one_media_of file m n h k = ap (λ (b : List ℕ). media_of b m.container) (h.bytes ∙ sym k.bytes) ∙ ap (media_of n.bytes) (one_container file m.container n.container h.container k.container)
-
--- so its store is read in one way
-pub one_store_reading : OneReadingIn → (file : List ℕ) (t : Tree) (a b : StoreReading) → IsFileReading file t a → IsFileReading file t b → a ≡ b
-one_store_reading one file t a b h k =
-    one h.media (manifests_of t) a b h.reads (subst (λ (m : Media). IsStoreReading m (manifests_of t) b) (one_media_of file k.media h.media k.is_media h.is_media) k.reads)
+-- the store of a file is read in one way
+pub one_store_reading : (file : List ℕ) (t : Tree) (a b : StoreReading) → IsFileReading file t a
+    → IsFileReading file t b → a ≡ b
+one_store_reading file t a b h k =
+    one_reading_store h.media (manifests_of t) a b h.reads
+    (subst (λ (m : Media). IsStoreReading m (manifests_of t) b) (media_once file k.media h.media k.is_media h.is_media) k.reads)
 
 -- ---- a message has one list of parts
 
 -- parts of a message, written short
 abbrev parts : List ℕ → Item → List ℕ → SignParts
-parts protected unprotected signature = record { protected = protected; unprotected = unprotected; signature = signature }
-
--- equal lists of members have equal parts
-same_parts : (p q : SignParts) → message_list p ≡ message_list q → p ≡ q
-same_parts p q e =
-    let protected : p.protected ≡ q.protected = cc (e) in
-    let unprotected : p.unprotected ≡ q.unprotected = cc (e) in
-    let signature : p.signature ≡ q.signature = cc (e) in
-    ap (λ (x : List ℕ). parts x p.unprotected p.signature) protected ∙ ap (λ (x : Item). parts q.protected x p.signature) unprotected
-    ∙ ap (λ (x : List ℕ). parts q.protected q.unprotected x) signature
+parts protected unprotected signature =
+    record { protected = protected; unprotected = unprotected; signature = signature }
 
 -- an item is the message of one list of parts, with its tag or without
-same_form : (v : Item) (p q : SignParts) → (v ≡ message_list p) ⊎ (v ≡ tag 18 (message_list p)) → (v ≡ message_list q) ⊎ (v ≡ tag 18 (message_list q)) → p ≡ q
+same_form : (v : Item) (p q : SignParts) → (v ≡ message_list p) ⊎ (v ≡ tag 18 (message_list p))
+    → (v ≡ message_list q) ⊎ (v ≡ tag 18 (message_list q)) → p ≡ q
 same_form v p q (inl a) (inl b) = same_parts p q (sym a ∙ b)
 same_form v p q (inl a) (inr b) = absurd (let bad = sym a ∙ b in cc (bad))
 same_form v p q (inr a) (inl b) = absurd (let bad = sym a ∙ b in cc (bad))
 same_form v p q (inr a) (inr b) = same_parts p q (let both = sym a ∙ b in cc (both))
 
 -- bytes are one message
-pub same_message : OneItem → (s : List ℕ) (p q : SignParts) → SpellsMessage s p → SpellsMessage s q → p ≡ q
-same_message one s p q a b =
-    let item : b.message ≡ a.message = one b.message a.message s b.spelled a.spelled in
-    same_form a.message p q a.is.form (subst (λ (v : Item). (v ≡ message_list q) ⊎ (v ≡ tag 18 (message_list q))) item b.is.form)
+pub same_message : (s : List ℕ) (p q : SignParts) → SpellsMessage s p → SpellsMessage s q → p ≡ q
+same_message s p q a b =
+    let item : b.message ≡ a.message = one_item b.message a.message s b.spelled a.spelled in
+    same_form a.message p q a.is.form
+    (subst (λ (v : Item). (v ≡ message_list q) ⊎ (v ≡ tag 18 (message_list q))) item b.is.form)
 
 -- ---- the inputs
 
@@ -126,20 +112,23 @@ same_message one s p q a b =
 pub one_media : (media : List ℕ) → IsOpenedOnce media → IsOne (IsMediaStage media)
 one_media media one r s h k = h.2 ∙ ap media_stage (one h.0 k.0 h.1 k.1) ∙ sym k.2
 
--- so is a definition file
-pub one_definition : OneDefinition → (file : List ℕ) → IsOne (IsDefinitionStage file)
-one_definition one file r s h k = h.2 ∙ ap definition_stage (one file h.0 k.0 h.1 k.1) ∙ sym k.2
+-- a definition file has one outcome in a build
+pub one_definition : (file : List ℕ) → IsOne (IsDefinitionStage file)
+one_definition file r s h k =
+    h.2 ∙ ap definition_stage (each_definition_is_read_one_way_one file h.0 k.0 h.1 k.1) ∙ sym k.2
 
 -- a message is read as one thing
-one_read : OneItem → RefusedForOne → (protected bytes : List ℕ) (m n : Result SignParts SignaturePart) → IsMessageRead protected bytes m → IsMessageRead protected bytes n → m ≡ n
-one_read one law protected bytes (Ok p) (Ok q) h k = ap (λ (x : SignParts). Ok x) (same_message one bytes p q h.1 k.1)
-one_read one law protected bytes (Ok p) (Err t) h k = absurd (law.none protected bytes t k h.0)
-one_read one law protected bytes (Err t) (Ok q) h k = absurd (law.none protected bytes t h k.0)
-one_read one law protected bytes (Err t) (Err u) h k = ap (λ (x : SignaturePart). Err x) (law.one protected bytes t u h k)
+one_read : RefusedForOne → (protected bytes : List ℕ) (m n : Result SignParts SignaturePart)
+    → IsMessageRead protected bytes m → IsMessageRead protected bytes n → m ≡ n
+one_read law protected bytes (Ok p) (Ok q) h k = ap (λ (x : SignParts). Ok x) (same_message bytes p q h.1 k.1)
+one_read law protected bytes (Ok p) (Err t) h k = absurd (law.none protected bytes t k h.0)
+one_read law protected bytes (Err t) (Ok q) h k = absurd (law.none protected bytes t h k.0)
+one_read law protected bytes (Err t) (Err u) h k = ap (λ (x : SignaturePart). Err x) (law.one protected bytes t u h k)
 
--- and is one thing to a build
-pub one_message : OneItem → RefusedForOne → (protected bytes : List ℕ) → IsOne (IsMessageStage protected bytes)
-one_message one law protected bytes r s h k = h.2 ∙ ap message_stage (one_read one law protected bytes h.0 k.0 h.1 k.1) ∙ sym k.2
+-- a message has one outcome in a build
+pub one_message : RefusedForOne → (protected bytes : List ℕ) → IsOne (IsMessageStage protected bytes)
+one_message law protected bytes r s h k =
+    h.2 ∙ ap message_stage (one_read law protected bytes h.0 k.0 h.1 k.1) ∙ sym k.2
 
 -- ---- both files
 
@@ -152,38 +141,51 @@ abbrev media_in : (Alg → List ℕ → List ℕ) → (Question → Verdict) →
 media_in hash said t s base = media_with (boxes_in t) s.readings (first_failing (check_list hash said s)) base
 
 -- a media file that is opened so is one thing to a new store
-pub one_media_file : OneLaws → (hash : Alg → List ℕ → List ℕ) (said : Question → Verdict) (file : List ℕ) (what : Opening Tree) (m n : MediaFile) → IsMediaFile hash said file what m
+pub one_media_file : OneLaws
+    → (hash : Alg → List ℕ → List ℕ) (said : Question → Verdict) (file : List ℕ) (what : Opening Tree) (m n : MediaFile)
+    → IsMediaFile hash said file what m
     → IsMediaFile hash said file what n → m ≡ n
 one_media_file l hash said file (refused reason number) m n h k = absurd h
 one_media_file l hash said file absent m n h k = h ∙ sym k
 one_media_file l hash said file (here start len t) m n h k =
-    let reading : h.reading ≡ k.reading = one_store_reading l.reading file t h.reading k.reading h.reads k.reads in
+    let reading : h.reading ≡ k.reading = one_store_reading file t h.reading k.reading h.reads k.reads in
     let base : m.base ≡ n.base = l.left file start len m.base n.base h.left k.left in
     let boxes : m.boxes ≡ n.boxes = h.boxes ∙ sym k.boxes in
-    let readings : m.readings ≡ n.readings = h.readings ∙ ap (λ (s : StoreReading). s.readings) reading ∙ sym k.readings in
-    let failing : m.failing ≡ n.failing = h.failing ∙ ap (λ (s : StoreReading). first_failing (check_list hash said s)) reading ∙ sym k.failing in
-    ap (λ (x : Trees). media_with x m.readings m.failing m.base) boxes ∙ ap (λ (x : List Reading). media_with n.boxes x m.failing m.base) readings
-    ∙ ap (λ (x : Option Failing). media_with n.boxes n.readings x m.base) failing ∙ ap (media_with n.boxes n.readings n.failing) base
+    let readings : m.readings ≡ n.readings =
+    h.readings ∙ ap (λ (s : StoreReading). s.readings) reading ∙ sym k.readings in
+    let failing : m.failing ≡ n.failing =
+    h.failing ∙ ap (λ (s : StoreReading). first_failing (check_list hash said s)) reading ∙ sym k.failing in
+    ap (λ (x : Trees). media_with x m.readings m.failing m.base) boxes
+    ∙ ap (λ (x : List Reading). media_with n.boxes x m.failing m.base) readings
+    ∙ ap (λ (x : Option Failing). media_with n.boxes n.readings x m.base) failing
+    ∙ ap (media_with n.boxes n.readings n.failing) base
 
 -- another file of these
 abbrev other_with : Answer → Trees → List Reading → OtherFile
 other_with answer boxes rs = record { answer = answer; boxes = boxes; readings = rs }
 
--- so is another file
-pub one_other_file : OneLaws → (hash : Alg → List ℕ → List ℕ) (said : Question → Verdict) (file : List ℕ) (what : Opening Tree) (o p : OtherFile) → IsOtherFile hash said file what o
+-- another file is read in one way
+pub one_other_file : OneLaws
+    → (hash : Alg → List ℕ → List ℕ) (said : Question → Verdict) (file : List ℕ) (what : Opening Tree) (o p : OtherFile)
+    → IsOtherFile hash said file what o
     → IsOtherFile hash said file what p → o ≡ p
 one_other_file l hash said file (refused reason number) o p h k = h ∙ sym k
 one_other_file l hash said file absent o p h k = h ∙ sym k
 one_other_file l hash said file (here start len t) o p h k =
-    let reading : h.reading ≡ k.reading = one_store_reading l.reading file t h.reading k.reading h.reads k.reads in
-    let answer : o.answer ≡ p.answer = h.answer ∙ ap (store_answer hash said (length file) start len) reading ∙ sym k.answer in
+    let reading : h.reading ≡ k.reading = one_store_reading file t h.reading k.reading h.reads k.reads in
+    let answer : o.answer ≡ p.answer =
+    h.answer ∙ ap (store_answer hash said (length file) start len) reading ∙ sym k.answer in
     let boxes : o.boxes ≡ p.boxes = h.boxes ∙ sym k.boxes in
-    let readings : o.readings ≡ p.readings = h.readings ∙ ap (λ (s : StoreReading). s.readings) reading ∙ sym k.readings in
-    ap (λ (x : Answer). other_with x o.boxes o.readings) answer ∙ ap (λ (x : Trees). other_with p.answer x o.readings) boxes
+    let readings : o.readings ≡ p.readings =
+    h.readings ∙ ap (λ (s : StoreReading). s.readings) reading ∙ sym k.readings in
+    ap (λ (x : Answer). other_with x o.boxes o.readings) answer
+    ∙ ap (λ (x : Trees). other_with p.answer x o.readings) boxes
     ∙ ap (other_with p.answer p.boxes) readings
 
 -- the media's part comes to one thing
-pub one_parent : OneLaws → (hash : Alg → List ℕ → List ℕ) (said : Question → Verdict) (media : List ℕ) (what : Opening Tree) → IsOne (IsParentStage hash said media what)
+pub one_parent : OneLaws
+    → (hash : Alg → List ℕ → List ℕ) (said : Question → Verdict) (media : List ℕ) (what : Opening Tree)
+    → IsOne (IsParentStage hash said media what)
 one_parent l hash said media what r s h k =
     let same : k.0 ≡ h.0 = one_media_file l hash said media what k.0 h.0 k.1 h.1 in
     one_unless (parent_refusals h.0) (λ x. x ≡ Ok h.0) (one_value h.0) r s h.2
@@ -195,8 +197,9 @@ record IsOtherOpened (hash : Alg → List ℕ → List ℕ) (said : Question →
   is : IsOtherFile hash said other found file
   unless : Unless (other_refusals file.answer) (λ x. x ≡ Ok file) r
 
--- the other's part comes to one thing
-one_other : OneLaws → (hash : Alg → List ℕ → List ℕ) (said : Question → Verdict) (other : List ℕ) → IsOpenedOnce other → IsOne (IsOtherStage hash said other)
+-- the stage of the other file has one outcome
+one_other : OneLaws → (hash : Alg → List ℕ → List ℕ) (said : Question → Verdict) (other : List ℕ) → IsOpenedOnce other
+    → IsOne (IsOtherStage hash said other)
 one_other l hash said other once r s h k =
     let opened : IsOtherOpened hash said other h.0 s =
     subst (λ (found : Opening Tree). IsOtherOpened hash said other found s) (once k.0 h.0 k.1 h.1) (record { file = k.2.0; is = k.2.1; unless = k.2.2 }) in
@@ -204,15 +207,20 @@ one_other l hash said other once r s h k =
     one_unless (other_refusals h.2.0.answer) (λ x. x ≡ Ok h.2.0) (one_value h.2.0) r s h.2.2
     (subst (λ (o : OtherFile). Unless (other_refusals o.answer) (λ x. x ≡ Ok o) s) same opened.unless)
 
--- both together come to one thing
+-- the stage of both files together has one outcome
 one_joined : (d : Definition) (m : MediaFile) (o : OtherFile) → IsOne (IsJoinedStage d m o)
 one_joined d m o r s h k =
-    let same : k.0 ≡ h.0 = one_clash (supers_in m.boxes) (is_reached m.readings) (supers_in o.boxes) (is_reached o.readings) k.0 h.0 k.1 h.1 in
-    one_unless (joined_refusals d (pair_of m o h.0)) (λ x. x ≡ Ok (pair_of m o h.0)) (one_value (pair_of m o h.0)) r s h.2
+    let same : k.0 ≡ h.0 =
+    one_clash (supers_in m.boxes) (is_reached m.readings) (supers_in o.boxes) (is_reached o.readings) k.0 h.0 k.1
+    h.1 in
+    one_unless (joined_refusals d (pair_of m o h.0)) (λ x. x ≡ Ok (pair_of m o h.0)) (one_value (pair_of m o h.0)) r s
+    h.2
     (subst (λ (c : Option (List ℕ)). Unless (joined_refusals d (pair_of m o c)) (λ x. x ≡ Ok (pair_of m o c)) s) same k.2)
 
--- so do the three stages of both files
-one_pair : OneLaws → (hash : Alg → List ℕ → List ℕ) (said : Question → Verdict) (media other : List ℕ) (what : Opening Tree) (d : Definition) → IsOpenedOnce other
+-- the three stages of both files have one outcome
+one_pair : OneLaws
+    → (hash : Alg → List ℕ → List ℕ) (said : Question → Verdict) (media other : List ℕ) (what : Opening Tree) (d : Definition)
+    → IsOpenedOnce other
     → IsOne (IsPairStage hash said media other what d)
 one_pair l hash said media other what d once =
     one_then (IsParentStage hash said media what) _ (one_parent l hash said media what) (λ m.
@@ -224,19 +232,23 @@ one_pair l hash said media other what d once =
 abbrev ground_of : FilePair → Content → Place → CollectGround
 ground_of p c place = record { pair = p; content = c; place = place }
 
--- it is one
+-- what a new file is built of is one
 one_ground : OneLaws → (d : Definition) (p : FilePair) → IsOne (IsGroundStage d p)
 one_ground l d p r s h k =
-    let content : h.0 ≡ k.0 = l.content d p.media.boxes p.other.boxes p.media.readings p.other.readings h.0 k.0 h.1 k.1 in
+    let content : h.0 ≡ k.0 =
+    l.content d p.media.boxes p.other.boxes p.media.readings p.other.readings h.0 k.0 h.1 k.1 in
     let place : h.2.0 ≡ k.2.0 = l.place p.media.base h.2.0 k.2.0 h.2.1 k.2.1 in
-    h.2.2 ∙ ap (λ (c : Content). Ok (ground_of p c h.2.0)) content ∙ ap (λ (q : Place). Ok (ground_of p k.0 q)) place ∙ sym k.2.2
+    h.2.2 ∙ ap (λ (c : Content). Ok (ground_of p c h.2.0)) content ∙ ap (λ (q : Place). Ok (ground_of p k.0 q)) place
+    ∙ sym k.2.2
 
 -- one new file is built
-one_made : FillsOrNeedsMore → (hash : Alg → List ℕ → List ℕ) (d : Definition) (m : SignParts) (g : CollectGround) → IsOne (IsNewFile hash d m g)
+one_made : FillsOrNeedsMore → (hash : Alg → List ℕ → List ℕ) (d : Definition) (m : SignParts) (g : CollectGround)
+    → IsOne (IsNewFile hash d m g)
 one_made fills hash d m g r s h k =
     let message : h.0 ≡ k.0 = fills.one m d.reserve h.0 k.0 h.1 k.1 in
     let bytes : h.2.0 ≡ k.2.0 = same_put h.0 k.0 h.2.0 k.2.0 message h.2.1 k.2.1 in
-    h.2.2 ∙ ap (λ (x : List ℕ). Ok (new_file g (length x) h.2.0)) message ∙ ap (λ (b : List ℕ). Ok (new_file g (length k.0) b)) bytes ∙ sym k.2.2
+    h.2.2 ∙ ap (λ (x : List ℕ). Ok (new_file g (length x) h.2.0)) message
+    ∙ ap (λ (b : List ℕ). Ok (new_file g (length k.0) b)) bytes ∙ sym k.2.2
   where
     same_put : (a b x y : List ℕ) → a ≡ b → IsPutIn hash d g a x → IsPutIn hash d g b y → x ≡ y
     same_put a b x y e f q = same_Some x y (sym (subst (λ (n : List ℕ). IsPutIn hash d g n x) e f) ∙ q)
@@ -247,17 +259,17 @@ one_made fills hash d m g r s h k =
 pub one_plan : OneLaws → OneCollectPlan
 one_plan l hash said media definition other a b once again =
     one_then (IsMediaStage media) _ (one_media media once) (λ what.
-    one_then (IsDefinitionStage definition) _ (one_definition l.definition definition) (λ d.
+    one_then (IsDefinitionStage definition) _ (one_definition definition) (λ d.
     one_then (IsPairStage hash said media other what d) _ (one_pair l hash said media other what d again) (λ p.
     one_then (IsGroundStage d p) (IsPlannedOn hash d) (one_ground l d p) (λ g.
     one_unless (ground_refusals d g) (λ r. r ≡ Ok (ground_signed hash d g)) (one_value (ground_signed hash d g)))))) a b
 
--- and so is a new file
+-- a new file is one
 pub one_file : OneLaws → OneCollectMade
 one_file l hash said media definition message other a b once again =
     one_then (IsMediaStage media) _ (one_media media once) (λ what.
-    one_then (IsDefinitionStage definition) _ (one_definition l.definition definition) (λ d.
-    one_then (IsMessageStage d.protected message) _ (one_message l.item l.refused d.protected message) (λ m.
+    one_then (IsDefinitionStage definition) _ (one_definition definition) (λ d.
+    one_then (IsMessageStage d.protected message) _ (one_message l.refused d.protected message) (λ m.
     one_then (IsPairStage hash said media other what d) _ (one_pair l hash said media other what d again) (λ p.
     one_then (IsGroundStage d p) (IsMadeOn hash d m) (one_ground l d p) (λ g.
     one_unless (ground_refusals d g ++ reserve_refusals d m) (IsNewFile hash d m g) (one_made l.fills hash d m g)))))) a b

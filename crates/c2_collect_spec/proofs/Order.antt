@@ -29,8 +29,8 @@ use Rattle.c2_chain_spec.specs.Rooted.{StoreIsRooted, is_reached_from, last_root
 use Rattle.c2_definition.specs.declared.types.Definition.{Definition}
 use Rattle.c2_new_signature.specs.Refusals.{reserve_needed}
 use Rattle.c2_new_signature.specs.Signed.{FillsOrNeedsMore, IsSigned}
-use Rattle.c2_new_store_spec.specs.Manifests.{supers_in}
-use Rattle.c2_new_store_spec.specs.Store.{Content, new_alg}
+use Rattle.c2_new_file_spec.specs.Manifests.{supers_in}
+use Rattle.c2_new_file_spec.specs.Store.{Content, new_alg}
 use Rattle.c2_new_file_spec.specs.Places.{CanPut, HasRoom, Place, in_boxes, in_segments, place_file, place_store, put_bytes, range_len, store_len}
 use Rattle.c2_collect_spec.specs.Order.{CanCollectPair, CollectRefusal, FilePair, IsCollectedFile, IsMediaFile, IsOtherFile, IsValidAnswer, MediaFile, OtherFile}
 use Rattle.c2_collect_spec.specs.Order.{CollectablePairIsUnrefused, CollectedIsNotRefused, NothingRefusedIsCollected, UnrefusedPairCollects}
@@ -42,6 +42,7 @@ use Rattle.c2_collect_spec.specs.Sides.{DoNotClash, IsClash}
 use Rattle.c2_collect_spec.specs.Stores.{IsAcceptedFile, IsRootedStore}
 use Rattle.c2_collect_spec.proofs.Contents.{content_one}
 use Rattle.c2_collect_spec.proofs.Stores.{accepted_rooted, none_rooted}
+use Rattle.c2_lemmas.proofs.Options.{never_some}
 
 -- ---- lists of refusals
 
@@ -64,7 +65,7 @@ told_none : {A : Type 0} (f : A → CollectRefusal) (o : Option A) → o ≡ Non
 told_none f o e = ap (λ p. option_to_list (option_map f p)) e
 
 -- a test that passes
-test_false : (b : Bool) (r : CollectRefusal) → cond b (r ∷ []) [] ≡ [] → b ≡ false
+pub test_false : (b : Bool) (r : CollectRefusal) → cond b (r ∷ []) [] ≡ [] → b ≡ false
 test_false true r e = absurd (cc (e))
 test_false false r e = refl
 
@@ -81,7 +82,7 @@ valid_answer (answers.Failing failing) e = absurd (cc (e))
 valid_answer (answers.Refused reason number) e = absurd (cc (e))
 valid_answer answers.NoStore e = absurd (cc (e))
 
--- and the other way round
+-- nothing of the other file is refused where it is valid
 answer_none : (a : Answer) → IsValidAnswer a → other_refusals a ≡ []
 answer_none a h = ap other_refusals h.1
 
@@ -95,15 +96,20 @@ pub record IsOtherStore (hash : Alg → List ℕ → List ℕ) (o : OtherFile) :
   pub rooted : IsRootedStore hash o.boxes o.readings (last_roots o.readings)
   pub some : 0 < length o.readings
 
--- its store can be joined
-pub other_store : StoreIsRooted → (hash : Alg → List ℕ → List ℕ) (said : Question → Verdict) (file : List ℕ) (what : Opening Tree) (o : OtherFile)
+-- the store of another file that is valid can be joined
+pub other_store : StoreIsRooted
+    → (hash : Alg → List ℕ → List ℕ) (said : Question → Verdict) (file : List ℕ) (what : Opening Tree) (o : OtherFile)
     → IsOpened file what → IsOtherFile hash said file what o → IsValidAnswer o.answer → IsOtherStore hash o
 other_store law hash said file (refused reason number) o opened is valid =
-    let bad : answers.Refused reason number ≡ answers.Valid valid.0 = sym (ap (λ (x : OtherFile). x.answer) is) ∙ valid.1 in absurd (cc (bad))
+    let bad : answers.Refused reason number ≡ answers.Valid valid.0 =
+    sym (ap (λ (x : OtherFile). x.answer) is) ∙ valid.1 in absurd (cc (bad))
 other_store law hash said file absent o opened is valid =
-    let bad : answers.NoStore ≡ answers.Valid valid.0 = sym (ap (λ (x : OtherFile). x.answer) is) ∙ valid.1 in absurd (cc (bad))
+    let bad : answers.NoStore ≡ answers.Valid valid.0 =
+    sym (ap (λ (x : OtherFile). x.answer) is) ∙ valid.1 in absurd (cc (bad))
 other_store law hash said file (here start len t) o opened is valid =
-    let none = none_failing (summary_of (length file) start len is.reading) valid.0 (first_failing (check_list hash said is.reading)) (sym is.answer ∙ valid.1) in
+    let none =
+    none_failing (summary_of (length file) start len is.reading) valid.0
+    (first_failing (check_list hash said is.reading)) (sym is.answer ∙ valid.1) in
     let accepted : IsAcceptedFile hash said file start len t is.reading =
     record { opened = opened; reads = is.reads; valid = all_hold (check_list hash said is.reading) none } in
     let k = accepted_rooted law hash said file start len t is.reading accepted in
@@ -116,7 +122,8 @@ other_store law hash said file (here start len t) o opened is valid =
 -- ---- the media file
 
 -- the media's store can be joined, where no rule of it fails; where there is none, no boxes can
-pub media_store : StoreIsRooted → (hash : Alg → List ℕ → List ℕ) (said : Question → Verdict) (file : List ℕ) (what : Opening Tree) (m : MediaFile)
+pub media_store : StoreIsRooted
+    → (hash : Alg → List ℕ → List ℕ) (said : Question → Verdict) (file : List ℕ) (what : Opening Tree) (m : MediaFile)
     → IsOpened file what → IsMediaFile hash said file what m → m.failing ≡ None
     → IsRootedStore hash m.boxes m.readings (last_roots m.readings)
 media_store law hash said file (refused reason number) m opened is none = absurd is
@@ -137,7 +144,7 @@ no_clash : (olds : List Tree) (was : ℕ → Bool) (others : List Tree) (reached
 no_clash olds was others reached None h e = h
 no_clash olds was others reached (Some label) h e = absurd (cc (e))
 
--- and none is told where they don't
+-- no label is told where two stores don't clash
 clash_none : (olds : List Tree) (was : ℕ → Bool) (others : List Tree) (reached : ℕ → Bool) (o : Option (List ℕ))
     → IsClash olds was others reached o → DoNotClash olds was others reached → o ≡ None
 clash_none olds was others reached None h apart = refl
@@ -152,7 +159,8 @@ pair_collects law hash said d media other p is e =
     let label = both_none (label_refusals d.label (pair_readings p)) _ clash.1 in
     let failing : p.media.failing ≡ None = none_told parent_fails p.media.failing parent.0 in
     let valid : IsValidAnswer p.other.answer = valid_answer p.other.answer found.0 in
-    let o : IsOtherStore hash p.other = other_store law hash said other is.found p.other is.is_found is.is_other valid in
+    let o : IsOtherStore hash p.other =
+    other_store law hash said other is.found p.other is.is_found is.is_other valid in
     record {
       media = failing;
       other = valid;
@@ -161,10 +169,15 @@ pair_collects law hash said d media other p is e =
           old_store = media_store law hash said media is.opened p.media is.is_opened is.is_media failing;
           other_store = o.rooted;
           some = o.some;
-          apart = no_clash (supers_in p.media.boxes) (is_reached p.media.readings) (supers_in p.other.boxes) (is_reached p.other.readings) p.clash is.is_clash (none_told label_clash p.clash clash.0);
+          apart =
+              no_clash (supers_in p.media.boxes) (is_reached p.media.readings) (supers_in p.other.boxes)
+              (is_reached p.other.readings) p.clash is.is_clash (none_told label_clash p.clash clash.0);
         };
         label = test_false (has_manifest (pair_readings p) d.label) (label_taken d.label) label.0;
-        redactions = none_told redaction_refused (redaction_refusal_by (is_reached_from (pair_readings p) (pair_roots p)) d.label (pair_readings p) d.redact) label.1;
+        redactions =
+            none_told redaction_refused
+            (redaction_refusal_by (is_reached_from (pair_readings p) (pair_roots p)) d.label (pair_readings p) d.redact)
+            label.1;
       };
     }
 
@@ -173,7 +186,8 @@ pub pair_unrefused : CollectablePairIsUnrefused
 pair_unrefused hash said d media other p is h =
     let clash : p.clash ≡ None =
     clash_none (supers_in p.media.boxes) (is_reached p.media.readings) (supers_in p.other.boxes) (is_reached p.other.readings) p.clash is.is_clash h.can.joins.apart in
-    none_both (option_to_list (option_map parent_fails p.media.failing)) _ (told_none parent_fails p.media.failing h.media)
+    none_both (option_to_list (option_map parent_fails p.media.failing)) _
+    (told_none parent_fails p.media.failing h.media)
     (none_both (other_refusals p.other.answer) _ (answer_none p.other.answer h.other)
     (none_both (option_to_list (option_map label_clash p.clash)) _ (told_none label_clash p.clash clash)
     (none_both (label_refusals d.label (pair_readings p)) _ (test_none (has_manifest (pair_readings p) d.label) (label_taken d.label) h.can.label)
@@ -200,14 +214,16 @@ place_none : (p : Place) → HasRoom p → place_refusals p ≡ []
 place_none (in_segments segments number) h = ap (λ o. cond (is_none o) (no_instance ∷ []) []) h.1
 place_none (in_boxes roots) h = told_none open_box (open_end (placed_from 0 roots)) h.0
 
--- nor of its root boxes
+-- nothing of the root boxes of a place is refused where it has room
 box_none : (p : Place) → HasRoom p → box_refusals p ≡ []
 box_none (in_segments segments number) h = refl
 box_none (in_boxes roots) h =
-    test_none (nat_le MAX_ROOT_BOXES (length roots)) (media_refused TooManyBoxes MAX_ROOT_BOXES) (lt-leb MAX_ROOT_BOXES (length roots) h.1)
+    test_none (nat_le MAX_ROOT_BOXES (length roots)) (media_refused TooManyBoxes MAX_ROOT_BOXES)
+    (lt-leb MAX_ROOT_BOXES (length roots) h.1)
 
 -- a new file fits where nothing of it is refused
-pub file_fits : (base : List ℕ) (c : Content) (reserve manifests : ℕ) (p : Place) → file_refusals base c reserve manifests p ≡ []
+pub file_fits : (base : List ℕ) (c : Content) (reserve manifests : ℕ) (p : Place)
+    → file_refusals base c reserve manifests p ≡ []
     → Fits base c reserve manifests p
 file_fits base c reserve manifests p e =
     let store : ℕ = store_len p c reserve in
@@ -218,9 +234,13 @@ file_fits base c reserve manifests p e =
     let small = both_none (cond (nat_lt MAX_STORE_LEN store) (store_too_large store ∷ []) []) _ few.1 in
     record {
       room = has_room p place.0 sizes.1;
-      few = ltb-false MAX_MANIFESTS manifests (test_false (nat_lt MAX_MANIFESTS manifests) (too_many_manifests manifests) few.0);
+      few =
+          ltb-false MAX_MANIFESTS manifests
+          (test_false (nat_lt MAX_MANIFESTS manifests) (too_many_manifests manifests) few.0);
       small = ltb-false MAX_STORE_LEN store (test_false (nat_lt MAX_STORE_LEN store) (store_too_large store) small.0);
-      fits = leb-false FILE_LEN_LIMIT file (test_false (nat_le FILE_LEN_LIMIT file) (media_refused FileTooLarge file) small.1);
+      fits =
+          leb-false FILE_LEN_LIMIT file
+          (test_false (nat_le FILE_LEN_LIMIT file) (media_refused FileTooLarge file) small.1);
     }
 
 -- nothing of a new file is refused where it fits
@@ -230,10 +250,12 @@ file_none base c reserve manifests p h =
     let store : ℕ = store_len p c reserve in
     let file : ℕ = length base + range_len p c reserve in
     let sizes : size_refusals manifests store file ≡ [] =
-    none_both (cond (nat_lt MAX_MANIFESTS manifests) (too_many_manifests manifests ∷ []) []) _ (test_none (nat_lt MAX_MANIFESTS manifests) (too_many_manifests manifests) (le-ltb MAX_MANIFESTS manifests h.few))
+    none_both (cond (nat_lt MAX_MANIFESTS manifests) (too_many_manifests manifests ∷ []) []) _
+    (test_none (nat_lt MAX_MANIFESTS manifests) (too_many_manifests manifests) (le-ltb MAX_MANIFESTS manifests h.few))
     (none_both (cond (nat_lt MAX_STORE_LEN store) (store_too_large store ∷ []) []) _ (test_none (nat_lt MAX_STORE_LEN store) (store_too_large store) (le-ltb MAX_STORE_LEN store h.small))
     (test_none (nat_le FILE_LEN_LIMIT file) (media_refused FileTooLarge file) (lt-leb FILE_LEN_LIMIT file h.fits))) in
-    none_both (place_refusals p) _ (place_none p h.room) (none_both (size_refusals manifests store file) (box_refusals p) sizes (box_none p h.room))
+    none_both (place_refusals p) _ (place_none p h.room)
+    (none_both (size_refusals manifests store file) (box_refusals p) sizes (box_none p h.room))
 
 -- something is put in where there is room
 pub some_bytes : (p : Place) → HasRoom p → (store : List ℕ) → (bytes : List ℕ) × (put_bytes p store ≡ Some bytes)
@@ -242,11 +264,6 @@ some_bytes (in_segments segments (Some en)) h store = (_, refl)
 some_bytes (in_boxes roots) h store = (_, refl)
 
 -- ---- the message
-
--- no bytes are needed where no number is
-none_needed : (o : Option ℕ) → ((n : ℕ) → o ≡ Some n → ⊥) → o ≡ None
-none_needed None h = refl
-none_needed (Some n) h = absurd (h n refl)
 
 -- ---- all of it
 
@@ -258,7 +275,8 @@ nothing_refused law fills hash said media other d parts pair c p h e =
     let needed : Option ℕ = reserve_needed d.reserve (length (bare_bytes parts)) in
     let enough : needed ≡ None = none_told reserve_too_small needed file.1 in
     let k : CanCollectPair hash d pair = pair_collects law hash said d media other pair h.read both.0 in
-    let f : Fits base c d.reserve (length (pair_readings pair) + 1) p = file_fits base c d.reserve (length (pair_readings pair) + 1) p file.0 in
+    let f : Fits base c d.reserve (length (pair_readings pair) + 1) p =
+    file_fits base c d.reserve (length (pair_readings pair) + 1) p file.0 in
     ⊎_elim (λ s. made k f s) (λ n. absurd (let bad = sym enough ∙ n.1 in cc (bad))) (fills.either h.bytes parts d.reserve h.paddable)
   where
     base : List ℕ
@@ -301,14 +319,16 @@ file_unrefused hash d pair parts p file b =
     file_none base x d.reserve (length (pair_readings pair) + 1) p
     (record { room = can.room; few = omega (arith, count); small = can.small; fits = can.fits })
 
--- nor of its message
-pub reserve_unrefused : FillsOrNeedsMore → (hash : Alg → List ℕ → List ℕ) (d : Definition) (pair : FilePair) (parts : SignParts) (p : Place) (file : List ℕ)
+-- nothing of the message of a new file is refused where the file is built
+pub reserve_unrefused : FillsOrNeedsMore
+    → (hash : Alg → List ℕ → List ℕ) (d : Definition) (pair : FilePair) (parts : SignParts) (p : Place) (file : List ℕ)
     → IsCollectedFile hash d pair parts p file → reserve_refusals d parts ≡ []
 reserve_unrefused fills hash d pair parts p file b =
     let needed : Option ℕ = reserve_needed d.reserve (length (bare_bytes parts)) in
-    told_none reserve_too_small needed (none_needed needed (λ n e. fills.never_both parts d.reserve b.message b.signed (n, e)))
+    told_none reserve_too_small needed
+    (never_some needed (λ n e. fills.never_both parts d.reserve b.message b.signed (n, e)))
 
--- so nothing at all is
+-- nothing at all is refused where a file is built
 pub built_unrefused : FillsOrNeedsMore → CollectedIsNotRefused
 built_unrefused fills hash said media other d parts pair c p file h b =
     let same : b.content ≡ c =

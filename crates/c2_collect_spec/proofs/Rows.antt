@@ -11,13 +11,13 @@ use Rattle.c2_rules.specs.declared.answer.Answer.TheVariants as answers
 use Rattle.c2_rules.specs.declared.answer.Failing.{Failing}
 use Rattle.c2_rules.specs.declared.answer.Summary.{Summary}
 use Rattle.c2_definition.specs.declared.types.Definition.{Definition}
-use Rattle.c2_new_store_spec.specs.Built.{built_len, no_digest, store_size}
-use Rattle.c2_new_store_spec.specs.Fresh.{fresh_content}
-use Rattle.c2_new_store_spec.specs.FreshBoxes.{contents_of, item_box}
-use Rattle.c2_new_store_spec.specs.Manifests.{supers_in}
-use Rattle.c2_new_store_spec.specs.Store.{Content, NamedManifest, data_binding, new_claim, new_manifest, new_store}
-use Rattle.c2_new_store_spec.proofs.BuildRows.{actions}
-use Rattle.c2_parent_spec.specs.Redacting.{boxes_in, redacted_boxes}
+use Rattle.c2_new_file_spec.specs.Built.{built_len, no_digest, store_size}
+use Rattle.c2_new_file_spec.specs.Fresh.{fresh_content}
+use Rattle.c2_new_file_spec.specs.FreshBoxes.{contents_of, item_box}
+use Rattle.c2_new_file_spec.specs.Manifests.{supers_in}
+use Rattle.c2_new_file_spec.specs.Store.{Content, NamedManifest, data_binding, new_claim, new_manifest, new_store}
+use Rattle.c2_new_file_spec.proofs.BuildRows.{actions}
+use Rattle.c2_new_file_spec.specs.Redacting.{boxes_in, redacted_boxes}
 use Rattle.c2_collect_spec.specs.Collected.{collected_ingredients}
 use Rattle.c2_collect_spec.specs.Order.{FilePair, first_refusal, label_clash, other_refused, pair_refusals, parent_fails}
 use Rattle.c2_collect_spec.specs.Sides.{ClashFirst, joined_boxes}
@@ -43,12 +43,14 @@ defined last = record {
 -- the manifest of the first store, over a file with this digest
 unfoldable manifest : List ℕ → Tree
 manifest digest =
-    new_manifest (no_digest Sha256) (fresh_content (defined (codes "0"))) (data_binding Sha256 20 1141 digest) (replicate 256 0)
+    new_manifest (no_digest Sha256) (fresh_content (defined (codes "0"))) (data_binding Sha256 20 1141 digest)
+    (replicate 256 0)
 
 -- the store of it
 unfoldable first : List ℕ → Tree
 first digest =
-    new_store (no_digest Sha256) (fresh_content (defined (codes "0"))) (data_binding Sha256 20 1141 digest) (replicate 256 0)
+    new_store (no_digest Sha256) (fresh_content (defined (codes "0"))) (data_binding Sha256 20 1141 digest)
+    (replicate 256 0)
 
 -- the manifest as an ingredient's
 unfoldable named : NamedManifest
@@ -72,7 +74,7 @@ alone = record {
   ingredients = collected_ingredients (named ∷ []);
 }
 
--- its one manifest is carried
+-- the one manifest of the file is carried
 carried : length (trees_bytes alone.carried) ≡ 1091
 unfolding alone first defined actions shortest_head
 carried = refl
@@ -87,7 +89,7 @@ alone_store : store_size alone 256 ≡ 2658
 unfolding alone first manifest named defined actions shortest_head
 alone_store = refl
 
--- its packets
+-- the packets of the store that collects the file over none
 alone_range : built_len alone 256 ≡ 2670
 unfolding alone first manifest named defined actions shortest_head
 alone_range = refl
@@ -98,11 +100,13 @@ alone_range = refl
 unfoldable twice : Content
 twice = record {
   definition = defined (codes "1");
-  carried = redacted_boxes [] (joined_boxes (boxes_in (first (zero_digest Sha256))) all (boxes_in (first (zero_digest Sha256))));
+  carried =
+      redacted_boxes []
+      (joined_boxes (boxes_in (first (zero_digest Sha256))) all (boxes_in (first (zero_digest Sha256))));
   ingredients = collected_ingredients (named ∷ named ∷ []);
 }
 
--- it is carried once
+-- the shared manifest is carried once
 shared : length (trees_bytes twice.carried) ≡ 1091
 unfolding twice first defined actions shortest_head
 shared = refl
@@ -112,7 +116,7 @@ twice_store : store_size twice 256 ≡ 3099
 unfolding twice first manifest named defined actions shortest_head
 twice_store = refl
 
--- its packets
+-- the packets of the store that collects the file over itself
 twice_range : built_len twice 256 ≡ 3111
 unfolding twice first manifest named defined actions shortest_head
 twice_range = refl
@@ -152,7 +156,8 @@ pair_of failing a clash = record {
 }
 
 -- a rule of the media's store comes before the other file
-parent_first : (f : Failing) → first_refusal (pair_refusals (defined (codes "1")) (pair_of (Some f) answers.NoStore None)) ≡ Some (parent_fails f)
+parent_first : (f : Failing)
+    → first_refusal (pair_refusals (defined (codes "1")) (pair_of (Some f) answers.NoStore None)) ≡ Some (parent_fails f)
 parent_first f = refl
 
 -- the other file comes before a clash
@@ -160,10 +165,11 @@ other_first : first_refusal (pair_refusals (defined (codes "1")) (pair_of None a
 other_first = refl
 
 -- a clash is refused where the other file is valid
-clash_first : (s : Summary) → first_refusal (pair_refusals (defined (codes "1")) (pair_of None (answers.Valid s) (Some (label (codes "0"))))) ≡ Some (label_clash (label (codes "0")))
+clash_first : (s : Summary)
+    → first_refusal (pair_refusals (defined (codes "1")) (pair_of None (answers.Valid s) (Some (label (codes "0"))))) ≡ Some (label_clash (label (codes "0")))
 clash_first s = refl
 
--- and where there is none, nothing is
+-- nothing is refused of both stores where the other file is valid and nothing clashes
 none_first : (s : Summary) → pair_refusals (defined (codes "1")) (pair_of None (answers.Valid s) None) ≡ []
 unfolding defined
 none_first s = refl

@@ -1,4 +1,10 @@
 -- Two files whose checks answer something come to some plan and to some new file, or to what refuses them.
+use Rattle.c2_new_file_spec.proofs.ParentLaws.{a_redacted_store_is_read_less}
+use Rattle.c2_collect_spec.proofs.Contents.{some_collects}
+use Rattle.c2_definition.proofs.TheLaws.{definitions_are_well_formed, each_definition_is_read_one_way_some}
+use Rattle.c2_new_signature.proofs.TheLaws.{a_message_fills_its_reserve_or_needs_more, each_message_is_accepted_or_refused_for_one_test}
+use Rattle.c2_new_file_spec.proofs.FileLaws.{each_media_has_a_place_fresh, each_media_has_a_place_left, each_media_has_a_place_place}
+use Rattle.c2_chain_spec.proofs.ChainLaws.{a_store_is_rooted_at_its_last_manifest}
 use Rattle.std.proofs.Common.{◌≡◌, ◌⊎◌, inl, inr, ℕ, ◌+◌, ◌^◌, ◌<◌, List, [], ◌++◌, length, All, Option, Some, None, refl, sym, subst}
 use Rattle.std.specs.Prelude.{Result, Ok, Err, option_map}
 use Rattle.std.specs.Option.{option_to_list}
@@ -17,7 +23,6 @@ use Rattle.c2_rules.specs.Opened.{IsOpened}
 use Rattle.c2_rules.specs.Tests.{first_failing}
 use Rattle.c2_rules.specs.Validated.{IsOpenedAnswer}
 use Rattle.c2_rules.specs.declared.answer.Answer.TheVariants as answers
-use Rattle.c2_chain_spec.specs.Rooted.{StoreIsRooted}
 use Rattle.c2_definition.specs.DefinitionFile.{IsDefinition, IsWellFormed}
 use Rattle.c2_definition.specs.declared.types.Definition.{Definition}
 use Rattle.c2_definition.specs.declared.types.DefinitionField.{DefinitionField}
@@ -25,12 +30,11 @@ use Rattle.c2_new_signature.specs.Message.{IsAccepted, IsRefused, RefusedForOne}
 use Rattle.c2_new_signature.specs.Refusals.{reserve_needed}
 use Rattle.c2_new_signature.specs.Signed.{FillsOrNeedsMore, IsPaddable, IsSigned, NeedsMore}
 use Rattle.c2_new_signature.specs.declared.error.SignaturePart.{SignaturePart}
-use Rattle.c2_new_store_spec.specs.Manifests.{supers_in}
-use Rattle.c2_new_store_spec.specs.Store.{new_alg}
-use Rattle.c2_parent_spec.specs.Redacting.{boxes_in}
-use Rattle.c2_new_file_spec.specs.Laws.{FreshHasPlace, LeftHasPlace, SomeLeft}
+use Rattle.c2_new_file_spec.specs.Manifests.{supers_in}
+use Rattle.c2_new_file_spec.specs.Store.{new_alg}
+use Rattle.c2_new_file_spec.specs.Redacting.{boxes_in}
+use Rattle.c2_new_file_spec.specs.Laws.{SomeLeft}
 use Rattle.c2_new_file_spec.specs.Places.{HasRoom, IsFreePlace, Place, place_store}
-use Rattle.c2_collect_spec.specs.Collected.{SomeContentCollects}
 use Rattle.c2_collect_spec.specs.Order.{CollectRefusal, FilePair, IsFilePair, IsMediaFile, IsOtherFile, IsValidAnswer, MediaFile, OtherFile}
 use Rattle.c2_collect_spec.specs.Order.{joined_refusals, other_refusals, pair_readings, pair_refusals, parent_refusals, reserve_refusals, reserve_too_small}
 use Rattle.c2_collect_spec.specs.Outcomes.{CollectGround, HasCheck, IsDefinitionStage, IsGroundStage, IsJoinedStage, IsMadeOn, IsMadeOver, IsMediaStage, IsMessageRead, IsMessageStage}
@@ -42,34 +46,15 @@ use Rattle.c2_collect_spec.proofs.Stages.{Something, passed, some_then, some_unl
 
 -- ---- what laws of other crates say
 
--- each file is a definition, or one thing of it is refused first
-abbrev pub EachDefinition : Type 0
-EachDefinition = (file : List ℕ) → (r : Result Definition DefinitionField) × IsDefinition file r
-
 -- a definition that a file is is well formed
 abbrev pub AreWellFormed : Type 0
 AreWellFormed = (file : List ℕ) (d : Definition) → IsDefinition file (Ok d) → IsWellFormed d
 
--- what is left of a media file, and its place for a new store
-pub record LeftLaws : Type 0 where
-  pub fresh : FreshHasPlace
-  pub left : SomeLeft
-  pub place : LeftHasPlace
-
--- all of them
-pub record SomeLaws : Type 0 where
-  pub definition : EachDefinition
-  pub formed : AreWellFormed
-  pub refused : RefusedForOne
-  pub fills : FillsOrNeedsMore
-  pub left : LeftLaws
-  pub rooted : StoreIsRooted
-  pub content : SomeContentCollects
-
 -- ---- the media
 
 -- a media file whose check answers something comes to something
-some_media : (hash : Alg → List ℕ → List ℕ) (said : Question → Verdict) (media : List ℕ) → HasCheck hash said media → Something (IsMediaStage media)
+some_media : (hash : Alg → List ℕ → List ℕ) (said : Question → Verdict) (media : List ℕ) → HasCheck hash said media
+    → Something (IsMediaStage media)
 some_media hash said media c = (media_stage c.is.0, (c.is.0, c.is.1, refl))
 
 -- equal answers have equal values
@@ -86,25 +71,33 @@ opened_as media what m = by m.0 m.1 m.2
     by (here start len t) o e = subst (IsOpened media) (same_value what (here start len t) e) o
 
 -- a refused file didn't pass
-refused_not : (media : List ℕ) (reason : Reason) (number : ℕ) {P : Type 0} → IsMediaStage media (Ok (refused reason number)) → P
+refused_not : (media : List ℕ) (reason : Reason) (number : ℕ) {P : Type 0}
+    → IsMediaStage media (Ok (refused reason number)) → P
 refused_not media reason number {P} m = absurd (by m.0 m.2)
   where
-    by : (w : Opening Tree) → ◌≡◌ {A = Result (Opening Tree) CollectRefusal} (Ok (refused reason number)) (media_stage w) → ⊥
+    by : (w : Opening Tree)
+        → ◌≡◌ {A = Result (Opening Tree) CollectRefusal} (Ok (refused reason number)) (media_stage w) → ⊥
     by (refused a n) e = cc (e)
     by absent e = let bad = same_value (refused reason number) absent e in cc (bad)
     by (here start len t) e = let bad = same_value (refused reason number) (here start len t) e in cc (bad)
 
 -- what the check of a file that is opened so answers
-pub answer_over : (hash : Alg → List ℕ → List ℕ) (said : Question → Verdict) (file : List ℕ) (what : Opening Tree) (c : HasCheck hash said file) → IsOpened file what
+pub answer_over :
+    (hash : Alg → List ℕ → List ℕ) (said : Question → Verdict) (file : List ℕ) (what : Opening Tree)
+    (c : HasCheck hash said file)
+    → IsOpened file what
     → IsOpenedAnswer hash said file what c.answer
 answer_over hash said file what c opened =
     subst (λ (w : Opening Tree). IsOpenedAnswer hash said file w c.answer) (c.once c.is.0 what c.is.1 opened) c.is.2
 
 -- a media file that passed is something to a new store
-some_media_file : SomeLeft → (hash : Alg → List ℕ → List ℕ) (said : Question → Verdict) (media : List ℕ) (what : Opening Tree) → HasCheck hash said media → IsMediaStage media (Ok what)
+some_media_file : SomeLeft
+    → (hash : Alg → List ℕ → List ℕ) (said : Question → Verdict) (media : List ℕ) (what : Opening Tree)
+    → HasCheck hash said media → IsMediaStage media (Ok what)
     → (m : MediaFile) × IsMediaFile hash said media what m
 some_media_file law hash said media (refused reason number) c m = refused_not media reason number m
-some_media_file law hash said media absent c m = (record { boxes = jumbf.none; readings = []; failing = None; base = media }, refl)
+some_media_file law hash said media absent c m =
+    (record { boxes = jumbf.none; readings = []; failing = None; base = media }, refl)
 some_media_file law hash said media (here start len t) c m =
     let opened : IsOpened media (here start len t) = opened_as media (here start len t) m in
     let reads = answer_over hash said media (here start len t) c opened in
@@ -114,20 +107,26 @@ some_media_file law hash said media (here start len t) c m =
     )
 
 -- what is left of it has a free place
-pub free_place : LeftLaws → (hash : Alg → List ℕ → List ℕ) (said : Question → Verdict) (media : List ℕ) (what : Opening Tree) (m : MediaFile) → IsOpened media what
+pub free_place :
+    (hash : Alg → List ℕ → List ℕ) (said : Question → Verdict) (media : List ℕ) (what : Opening Tree) (m : MediaFile)
+    → IsOpened media what
     → IsMediaFile hash said media what m → (p : Place) × IsFreePlace m.base p
-free_place laws hash said media (refused reason number) m opened is = absurd is
-free_place laws hash said media absent m opened is =
-    subst (λ (x : MediaFile). (p : Place) × IsFreePlace x.base p) (sym is) (laws.fresh media opened)
-free_place laws hash said media (here start len t) m opened is = laws.place media start len t m.base opened is.left
+free_place hash said media (refused reason number) m opened is = absurd is
+free_place hash said media absent m opened is =
+    subst (λ (x : MediaFile). (p : Place) × IsFreePlace x.base p) (sym is) (each_media_has_a_place_fresh media opened)
+free_place hash said media (here start len t) m opened is =
+    each_media_has_a_place_place media start len t m.base opened is.left
 
 -- ---- the other file
 
 -- what another file is to a new store, once it is opened so
-some_other_file : (hash : Alg → List ℕ → List ℕ) (said : Question → Verdict) (other : List ℕ) (found : Opening Tree) → HasCheck hash said other → IsOpened other found
+some_other_file : (hash : Alg → List ℕ → List ℕ) (said : Question → Verdict) (other : List ℕ) (found : Opening Tree)
+    → HasCheck hash said other → IsOpened other found
     → (o : OtherFile) × IsOtherFile hash said other found o
-some_other_file hash said other (refused reason number) c opened = (record { answer = answers.Refused reason number; boxes = jumbf.none; readings = [] }, refl)
-some_other_file hash said other absent c opened = (record { answer = answers.NoStore; boxes = jumbf.none; readings = [] }, refl)
+some_other_file hash said other (refused reason number) c opened =
+    (record { answer = answers.Refused reason number; boxes = jumbf.none; readings = [] }, refl)
+some_other_file hash said other absent c opened =
+    (record { answer = answers.NoStore; boxes = jumbf.none; readings = [] }, refl)
 some_other_file hash said other (here start len t) c opened =
     let reads = answer_over hash said other (here start len t) c opened in (
       record { answer = store_answer hash said (length other) start len reads.0; boxes = boxes_in t; readings = reads.0.readings },
@@ -144,36 +143,42 @@ pub record IsOtherPassed (hash : Alg → List ℕ → List ℕ) (said : Question
   pub valid : IsValidAnswer o.answer
   pub none : other_refusals o.answer ≡ []
 
--- so much is known
-pub other_passed : (hash : Alg → List ℕ → List ℕ) (said : Question → Verdict) (other : List ℕ) (o : OtherFile) → IsOtherStage hash said other (Ok o) → IsOtherPassed hash said other o
+-- this much is known of another file that passed
+pub other_passed : (hash : Alg → List ℕ → List ℕ) (said : Question → Verdict) (other : List ℕ) (o : OtherFile)
+    → IsOtherStage hash said other (Ok o) → IsOtherPassed hash said other o
 other_passed hash said other o h =
     let p = unless_passed (other_refusals h.2.0.answer) (λ s. s ≡ Ok h.2.0) o h.2.2 in
     let same : h.2.0 ≡ o = cc (p.1) in
     let none : other_refusals o.answer ≡ [] = subst (λ (x : OtherFile). other_refusals x.answer ≡ []) same p.0 in
-    record { found = h.0; opened = h.1; is = subst (IsOtherFile hash said other h.0) same h.2.1; valid = valid_answer o.answer none; none = none }
+    record
+    { found = h.0; opened = h.1; is = subst (IsOtherFile hash said other h.0) same h.2.1; valid = valid_answer o.answer none; none = none }
 
 -- What is known of a media file that passed.
 pub record IsMediaPassed (hash : Alg → List ℕ → List ℕ) (said : Question → Verdict) (media : List ℕ) (what : Opening Tree) (m : MediaFile) : Type 0 where
   pub is : IsMediaFile hash said media what m
   pub none : parent_refusals m ≡ []
 
--- so much is known
-pub media_passed : (hash : Alg → List ℕ → List ℕ) (said : Question → Verdict) (media : List ℕ) (what : Opening Tree) (m : MediaFile) → IsParentStage hash said media what (Ok m) → IsMediaPassed hash said media what m
+-- this much is known of a media file that passed
+pub media_passed :
+    (hash : Alg → List ℕ → List ℕ) (said : Question → Verdict) (media : List ℕ) (what : Opening Tree) (m : MediaFile)
+    → IsParentStage hash said media what (Ok m) → IsMediaPassed hash said media what m
 media_passed hash said media what m h =
     let p = unless_passed (parent_refusals h.0) (λ s. s ≡ Ok h.0) m h.2 in
     let same : h.0 ≡ m = cc (p.1) in
-    record { is = subst (IsMediaFile hash said media what) same h.1; none = subst (λ (x : MediaFile). parent_refusals x ≡ []) same p.0 }
+    record
+    { is = subst (IsMediaFile hash said media what) same h.1; none = subst (λ (x : MediaFile). parent_refusals x ≡ []) same p.0 }
 
--- both files come to something
-some_pair : SomeLaws → (hash : Alg → List ℕ → List ℕ) (said : Question → Verdict) (media other : List ℕ) (what : Opening Tree) (d : Definition)
-    → HasCheck hash said media → HasCheck hash said other → IsMediaStage media (Ok what) → Something (IsPairStage hash said media other what d)
-some_pair l hash said media other what d own theirs is_media =
+-- both files have an outcome
+some_pair : (hash : Alg → List ℕ → List ℕ) (said : Question → Verdict) (media other : List ℕ) (what : Opening Tree) (d : Definition)
+    → HasCheck hash said media → HasCheck hash said other → IsMediaStage media (Ok what)
+    → Something (IsPairStage hash said media other what d)
+some_pair hash said media other what d own theirs is_media =
     some_then (IsParentStage hash said media what) _ parent (λ m is_m.
     some_then (IsOtherStage hash said other) (IsJoinedStage d m) found (λ o is_o. joined m o (other_passed hash said other o is_o)))
   where
     parent : Something (IsParentStage hash said media what)
     parent =
-        let m = some_media_file l.left.left hash said media what own is_media in
+        let m = some_media_file each_media_has_a_place_left hash said media what own is_media in
         let r = some_unless (parent_refusals m.0) (λ s. s ≡ Ok m.0) (λ none. (Ok m.0, refl)) in
         (r.0, (m.0, m.1, r.1))
 
@@ -185,9 +190,14 @@ some_pair l hash said media other what d own theirs is_media =
 
     joined : (m : MediaFile) (o : OtherFile) → IsOtherPassed hash said other o → Something (IsJoinedStage d m o)
     joined m o p =
-        let store = other_store l.rooted hash said other p.found o p.opened p.is p.valid in
-        let clash = some_clash (supers_in m.boxes) (is_reached m.readings) (supers_in o.boxes) (is_reached o.readings) store.rooted.stores in
-        let r = some_unless (joined_refusals d (pair_of m o clash.0)) (λ s. s ≡ Ok (pair_of m o clash.0)) (λ none. (Ok (pair_of m o clash.0), refl)) in
+        let store =
+        other_store a_store_is_rooted_at_its_last_manifest hash said other p.found o p.opened p.is p.valid in
+        let clash =
+        some_clash (supers_in m.boxes) (is_reached m.readings) (supers_in o.boxes) (is_reached o.readings)
+        store.rooted.stores in
+        let r =
+        some_unless (joined_refusals d (pair_of m o clash.0)) (λ s. s ≡ Ok (pair_of m o clash.0))
+        (λ none. (Ok (pair_of m o clash.0), refl)) in
         (r.0, (clash.0, clash.1, r.1))
 
 -- What is known of two files that passed.
@@ -196,8 +206,11 @@ pub record IsPairPassed (hash : Alg → List ℕ → List ℕ) (said : Question 
   pub is_pair : IsFilePair hash said media other p
   pub none : pair_refusals d p ≡ []
 
--- so much is known
-pub pair_passed : (hash : Alg → List ℕ → List ℕ) (said : Question → Verdict) (media other : List ℕ) (what : Opening Tree) (d : Definition) (p : FilePair) → IsMediaStage media (Ok what)
+-- this much is known of two files that passed
+pub pair_passed :
+    (hash : Alg → List ℕ → List ℕ) (said : Question → Verdict) (media other : List ℕ) (what : Opening Tree)
+    (d : Definition) (p : FilePair)
+    → IsMediaStage media (Ok what)
     → IsPairStage hash said media other what d (Ok p) → IsPairPassed hash said media other what d p
 pair_passed hash said media other what d p is_media h =
     let one = passed (IsParentStage hash said media what) _ p h in
@@ -205,7 +218,9 @@ pair_passed hash said media other what d p is_media h =
     let m = media_passed hash said media what one.value one.first in
     let o = other_passed hash said other two.value two.first in
     let clash : Option (List ℕ) = two.next.0 in
-    let three = unless_passed (joined_refusals d (pair_of one.value two.value clash)) (λ s. s ≡ Ok (pair_of one.value two.value clash)) p two.next.2 in
+    let three =
+    unless_passed (joined_refusals d (pair_of one.value two.value clash))
+    (λ s. s ≡ Ok (pair_of one.value two.value clash)) p two.next.2 in
     let same : pair_of one.value two.value clash ≡ p = cc (three.1) in
     subst (IsPairPassed hash said media other what d) same
     (record {
@@ -226,22 +241,25 @@ pair_passed hash said media other what d p is_media h =
 -- ---- the definition and the message
 
 -- each definition file comes to something
-some_definition : EachDefinition → (file : List ℕ) → Something (IsDefinitionStage file)
-some_definition law file = let d = law file in (definition_stage d.0, (d.0, d.1, refl))
+some_definition : (file : List ℕ) → Something (IsDefinitionStage file)
+some_definition file = let d = each_definition_is_read_one_way_some file in (definition_stage d.0, (d.0, d.1, refl))
 
 -- a definition that passed is that of its file
 pub defined_of : (file : List ℕ) (d : Definition) → IsDefinitionStage file (Ok d) → IsDefinition file (Ok d)
 defined_of file d h = by h.0 h.1 h.2
   where
-    by : (r : Result Definition DefinitionField) → IsDefinition file r → Ok d ≡ definition_stage r → IsDefinition file (Ok d)
+    by : (r : Result Definition DefinitionField) → IsDefinition file r → Ok d ≡ definition_stage r
+        → IsDefinition file (Ok d)
     by (Ok x) is e = let same : x ≡ d = cc (e) in subst (λ (y : Definition). IsDefinition file (Ok y)) same is
     by (Err f) is e = absurd (cc (e))
 
 -- each message comes to something
-some_message : RefusedForOne → (protected bytes : List ℕ) → All (λ b. b < 2 ^ 8) bytes → Something (IsMessageStage protected bytes)
+some_message : RefusedForOne → (protected bytes : List ℕ) → All (λ b. b < 2 ^ 8) bytes
+    → Something (IsMessageStage protected bytes)
 some_message law protected bytes are = by (law.either protected bytes are)
   where
-    by : IsAccepted protected bytes ⊎ ((test : SignaturePart) × IsRefused protected bytes test) → Something (IsMessageStage protected bytes)
+    by : IsAccepted protected bytes ⊎ ((test : SignaturePart) × IsRefused protected bytes test)
+        → Something (IsMessageStage protected bytes)
     by (inl a) = let form = a.1.0 in (Ok form.0, (Ok form.0, (a, form.1), refl))
     by (inr r) = (message_stage (Err r.0), (Err r.0, r.1, refl))
 
@@ -251,15 +269,18 @@ pub record IsTaken (protected bytes : List ℕ) (p : SignParts) : Type 0 where
   pub spelled : SpellsMessage bytes p
 
 -- a message that passed was accepted
-pub read_taken : (protected bytes : List ℕ) (p : SignParts) → IsMessageStage protected bytes (Ok p) → IsTaken protected bytes p
+pub read_taken : (protected bytes : List ℕ) (p : SignParts) → IsMessageStage protected bytes (Ok p)
+    → IsTaken protected bytes p
 read_taken protected bytes p h = by h.0 h.1 h.2
   where
-    by : (m : Result SignParts SignaturePart) → IsMessageRead protected bytes m → Ok p ≡ message_stage m → IsTaken protected bytes p
+    by : (m : Result SignParts SignaturePart) → IsMessageRead protected bytes m → Ok p ≡ message_stage m
+        → IsTaken protected bytes p
     by (Ok q) is e = let same : q ≡ p = cc (e) in record { accepted = is.0; spelled = subst (SpellsMessage bytes) same is.1 }
     by (Err t) is e = absurd (cc (e))
 
--- it can be padded to what a definition reserves
-paddable : (protected bytes : List ℕ) (p : SignParts) (d : Definition) → IsTaken protected bytes p → IsWellFormed d → IsPaddable bytes p d.reserve
+-- a message that passed can be padded to what a definition reserves
+paddable : (protected bytes : List ℕ) (p : SignParts) (d : Definition) → IsTaken protected bytes p → IsWellFormed d
+    → IsPaddable bytes p d.reserve
 paddable protected bytes p d t formed =
     let tests = t.accepted.1.1 in
     let map = t.spelled.is.header in
@@ -288,46 +309,52 @@ no_more d p none needs = by (reserve_needed d.reserve (length (bare_bytes p))) n
 -- ---- what is built
 
 -- what is built of is there
-some_ground : SomeLaws → (hash : Alg → List ℕ → List ℕ) (said : Question → Verdict) (media other : List ℕ) (what : Opening Tree) (d : Definition) (p : FilePair)
+some_ground : (hash : Alg → List ℕ → List ℕ) (said : Question → Verdict) (media other : List ℕ) (what : Opening Tree) (d : Definition) (p : FilePair)
     → IsMediaStage media (Ok what) → IsPairPassed hash said media other what d p → Something (IsGroundStage d p)
-some_ground l hash said media other what d p is_media h =
-    let can = pair_collects l.rooted hash said d media other p h.is_pair h.none in
-    let c = l.content hash d p.media.boxes p.other.boxes p.media.readings p.other.readings can.can in
-    let place = free_place l.left hash said media what p.media (opened_as media what is_media) h.is_media in
+some_ground hash said media other what d p is_media h =
+    let can = pair_collects a_store_is_rooted_at_its_last_manifest hash said d media other p h.is_pair h.none in
+    let c =
+    (some_collects a_redacted_store_is_read_less) hash d p.media.boxes p.other.boxes p.media.readings p.other.readings can.can in
+    let place = free_place hash said media what p.media (opened_as media what is_media) h.is_media in
     (Ok (record { pair = p; content = c.0; place = place.0 }), (c.0, c.1, (place.0, place.1.is, refl)))
 
 -- a file is built where nothing is refused
-some_made : FillsOrNeedsMore → (hash : Alg → List ℕ → List ℕ) (bytes : List ℕ) (d : Definition) (m : SignParts) (g : CollectGround) → IsTaken d.protected bytes m → IsWellFormed d
+some_made : FillsOrNeedsMore
+    → (hash : Alg → List ℕ → List ℕ) (bytes : List ℕ) (d : Definition) (m : SignParts) (g : CollectGround)
+    → IsTaken d.protected bytes m → IsWellFormed d
     → ground_refusals d g ++ reserve_refusals d m ≡ [] → Something (IsNewFile hash d m g)
 some_made fills hash bytes d m g taken formed none =
     let both = both_none (ground_refusals d g) (reserve_refusals d m) none in
     let fit = file_fits g.pair.media.base g.content d.reserve (length (pair_readings g.pair) + 1) g.place both.0 in
     by both.1 fit.room (fills.either bytes m d.reserve (paddable d.protected bytes m d taken formed))
   where
-    by : reserve_refusals d m ≡ [] → HasRoom g.place → ((message : List ℕ) × IsSigned m d.reserve message) ⊎ NeedsMore m d.reserve → Something (IsNewFile hash d m g)
+    by : reserve_refusals d m ≡ [] → HasRoom g.place
+        → ((message : List ℕ) × IsSigned m d.reserve message) ⊎ NeedsMore m d.reserve → Something (IsNewFile hash d m g)
     by pass room (inl s) =
-        let put = some_bytes g.place room (tree_bytes (place_store (hash (new_alg d)) g.content s.0 g.pair.media.base g.place)) in
+        let put =
+        some_bytes g.place room
+        (tree_bytes (place_store (hash (new_alg d)) g.content s.0 g.pair.media.base g.place)) in
         (Ok (new_file g (length s.0) put.0), (s.0, s.1, (put.0, put.1, refl)))
     by pass room (inr n) = absurd (no_more d m pass n)
 
 -- ---- both calls
 
 -- something is planned
-pub some_plan : SomeLaws → SomeCollectPlan
-some_plan l hash said media definition other own theirs =
+pub some_plan : SomeCollectPlan
+some_plan hash said media definition other own theirs =
     some_then (IsMediaStage media) _ (some_media hash said media own) (λ what is_media.
-    some_then (IsDefinitionStage definition) _ (some_definition l.definition definition) (λ d is_d.
-    some_then (IsPairStage hash said media other what d) (IsPlannedOver hash d) (some_pair l hash said media other what d own theirs is_media) (λ p is_p.
-    some_then (IsGroundStage d p) (IsPlannedOn hash d) (some_ground l hash said media other what d p is_media (pair_passed hash said media other what d p is_media is_p)) (λ g is_g.
+    some_then (IsDefinitionStage definition) _ (some_definition definition) (λ d is_d.
+    some_then (IsPairStage hash said media other what d) (IsPlannedOver hash d) (some_pair hash said media other what d own theirs is_media) (λ p is_p.
+    some_then (IsGroundStage d p) (IsPlannedOn hash d) (some_ground hash said media other what d p is_media (pair_passed hash said media other what d p is_media is_p)) (λ g is_g.
     some_unless (ground_refusals d g) (λ r. r ≡ Ok (ground_signed hash d g)) (λ none. (Ok (ground_signed hash d g), refl))))))
 
 -- something is built
-pub some_file : SomeLaws → SomeCollectMade
-some_file l hash said media definition message other own theirs are =
+pub some_file : SomeCollectMade
+some_file hash said media definition message other own theirs are =
     some_then (IsMediaStage media) _ (some_media hash said media own) (λ what is_media.
-    some_then (IsDefinitionStage definition) _ (some_definition l.definition definition) (λ d is_d.
-    some_then (IsMessageStage d.protected message) _ (some_message l.refused d.protected message are) (λ m is_m.
-    some_then (IsPairStage hash said media other what d) (IsMadeOver hash d m) (some_pair l hash said media other what d own theirs is_media) (λ p is_p.
-    some_then (IsGroundStage d p) (IsMadeOn hash d m) (some_ground l hash said media other what d p is_media (pair_passed hash said media other what d p is_media is_p)) (λ g is_g.
+    some_then (IsDefinitionStage definition) _ (some_definition definition) (λ d is_d.
+    some_then (IsMessageStage d.protected message) _ (some_message each_message_is_accepted_or_refused_for_one_test d.protected message are) (λ m is_m.
+    some_then (IsPairStage hash said media other what d) (IsMadeOver hash d m) (some_pair hash said media other what d own theirs is_media) (λ p is_p.
+    some_then (IsGroundStage d p) (IsMadeOn hash d m) (some_ground hash said media other what d p is_media (pair_passed hash said media other what d p is_media is_p)) (λ g is_g.
     some_unless (ground_refusals d g ++ reserve_refusals d m) (IsNewFile hash d m g)
-    (some_made l.fills hash message d m g (read_taken d.protected message m is_m) (l.formed definition d (defined_of definition d is_d))))))))
+    (some_made a_message_fills_its_reserve_or_needs_more hash message d m g (read_taken d.protected message m is_m) (definitions_are_well_formed definition d (defined_of definition d is_d))))))))

@@ -1,81 +1,68 @@
 -- Two stores that can be joined and don't clash join to one; a valid store can be joined, and so can that of an accepted file; and a
 -- store that can be joined is taken over by a new one.
-use Rattle.std.proofs.Common.{◌≡◌, ℕ, zero, suc, ◌+◌, ◌<◌, Bool, true, false, not, ◌&&◌, cond, List, [], ◌∷◌, ◌++◌, length, map, Option, Some, None, slice_get, refl, sym, ap, ◌∙◌, subst, arith, bytes_eq, lit≤}
-use Rattle.std.specs.Prelude.{option_map, unwrap_or}
-use Rattle.std.specs.Bool.{MatchBool}
+use Rattle.c2_read_manifests.proofs.TheLaws.{one_reading_manifest}
+use Rattle.c2_chain_spec.proofs.ChainLaws.{chains_join}
+use Rattle.std.proofs.Common.{◌≡◌, ℕ, ◌+◌, ◌<◌, Bool, true, false, not, ◌&&◌, cond, List, [], ◌∷◌, ◌++◌, length, map, Some, None, refl, sym, ap, ◌∙◌, subst, arith, bytes_eq, lit≤}
+use Rattle.std.specs.Prelude.{unwrap_or}
 use Rattle.std.specs.List.{AllByRecursion, AllZip}
-use Rattle.std.proofs.lemmas.Bool.{true≢false}
 use Rattle.std.proofs.lemmas.Slice.Eq.{bytes_eq-Decides}
 use Rattle.c2_base.specs.declared.limits.TheConstants.{MAX_MANIFESTS}
 use Rattle.c2_base.specs.declared.values.Question.{Question}
-use Rattle.c2_spec.specs.C2pa.Assertion.{ingredient_of}
-use Rattle.c2_spec.specs.C2pa.Manifest.{Manifest, Superbox, manifests_of, store_refusal}
-use Rattle.c2_spec.specs.Jumbf.Tree.{AreDistinctLabels, IsLegalTree, IsNewLabel, SpellsTree, Tree, Trees, leaf, super, tree_bytes, tree_label}
+use Rattle.c2_spec.specs.C2pa.Manifest.{Manifest, manifests_of, store_refusal}
+use Rattle.c2_spec.specs.Jumbf.Tree.{AreDistinctLabels, IsLegalTree, IsNewLabel, Tree, Trees, leaf, super, tree_bytes, tree_label}
 use Rattle.c2_spec.specs.Located as located
 use Rattle.c2_spec.specs.Located.{Located, Opening}
 use Rattle.c2_spec.specs.declared.digest.Alg.{Alg}
 use Rattle.c2_spec.specs.declared.panel.Verdict.{Verdict}
 use Rattle.c2_rules.specs.Chains.{is_reached}
-use Rattle.c2_rules.specs.CheckList.{StoreReading, active_in, active_tests, chain_tests, check_list, judged_tests, last_tests, place_tests, tests_of}
-use Rattle.c2_rules.specs.Ingredients.{box_version, is_ingredient}
+use Rattle.c2_rules.specs.CheckList.{StoreReading, active_in, active_tests, chain_tests, check_list, judged_tests, last_tests}
 use Rattle.c2_rules.specs.Opened.{IsBoxTree, IsManifestStore, IsManifestTree, IsOpened, Opens}
-use Rattle.c2_rules.specs.Readings.{AreReadings, IsParsed, IsReadBox, IsReading, ReadBox, Reading, question_in, value_in}
-use Rattle.c2_rules.specs.Rules.{claim_tests, rest_tests, unjudged_tests, verdict_tests}
-use Rattle.c2_rules.specs.Seen.{seen_at}
-use Rattle.c2_rules.specs.Tests.{AllHold, downward}
-use Rattle.c2_rules.specs.declared.parsed.Parsed.TheVariants.{NoItem}
-use Rattle.c2_rules.proofs.ListLemmas.{both_true}
-use Rattle.c2_chain_spec.specs.Joined.{ChainsJoin, NoneClashes, has_manifest, is_carried, joined, picked}
+use Rattle.c2_rules.specs.Readings.{AreReadings, IsReading, Reading}
+use Rattle.c2_rules.specs.Rules.{unjudged_tests}
+use Rattle.c2_rules.specs.Tests.{AllHold}
+use Rattle.c2_chain_spec.specs.Joined.{NoneClashes, has_manifest, is_carried, joined, picked}
 use Rattle.c2_chain_spec.specs.Rooted.{AllReadKinds, StoreIsRooted, is_reached_from, last_roots}
 use Rattle.c2_definition.specs.declared.types.Definition.{Definition}
-use Rattle.c2_new_store_spec.specs.Manifests.{is_super, manifest_of, supers_in, supers_of}
-use Rattle.c2_new_store_spec.specs.Written.{IsStoreBox}
-use Rattle.c2_new_store_spec.proofs.ByIndex.{same_manifests}
-use Rattle.c2_new_store_spec.proofs.Conditions.{Holds, all_each, all_hold}
-use Rattle.c2_new_store_spec.proofs.Lists.{each-append, each-back, each-front}
-use Rattle.c2_parent_spec.specs.Less.{IsReadLess, RedactedStoreIsRead}
-use Rattle.c2_parent_spec.specs.Redacting.{boxes_in, redacted_boxes}
-use Rattle.c2_parent_spec.proofs.Places.{less_len}
-use Rattle.c2_parent_spec.proofs.Stores.{label_some, legal_at, legal_inside, none_taken, read_label, read_len, some_boxes, store_boxes, store_differs, supers_are}
+use Rattle.c2_new_file_spec.specs.Manifests.{is_super, manifest_of, supers_in, supers_of}
+use Rattle.c2_new_file_spec.specs.Written.{IsStoreBox}
+use Rattle.c2_new_file_spec.proofs.ByIndex.{same_manifests}
+use Rattle.c2_new_file_spec.proofs.Conditions.{Holds, all_each, all_hold}
+use Rattle.c2_new_file_spec.specs.Less.{IsReadLess, RedactedStoreIsRead}
+use Rattle.c2_new_file_spec.specs.Redacting.{boxes_in, redacted_boxes}
+use Rattle.c2_new_file_spec.proofs.Places.{less_len}
+use Rattle.c2_new_file_spec.proofs.Stores.{label_some, legal_at, legal_inside, none_taken, read_label, read_len, some_boxes, store_boxes, store_differs, supers_are}
 use Rattle.c2_new_content_spec.specs.Taken.{IsTakenFrom}
 use Rattle.c2_collect_spec.specs.Refusals.{AreAcceptedBy, redaction_refusal_by}
 use Rattle.c2_collect_spec.specs.Sides.{DoNotClash, carried_trees, has_same_label, is_carried_box, joined_boxes}
 use Rattle.c2_collect_spec.specs.Stores.{AcceptedFileIsRooted, IsRootedStore, NoStoreIsRooted, RootedStoreIsTaken, RootedStoresJoin, ValidStoreIsRooted}
 use Rattle.c2_collect_spec.proofs.Accepted.{accepted}
-use Rattle.c2_collect_spec.proofs.Zips.{IsFree, Reads, ZipAt, all_picked, are_supers, box_label, free_of, higher, legal_supers, picked_distinct, reads_zip, supers_distinct, then_distinct, then_legal, then_supers, zip_append, zip_at, zip_picked, zip_reads}
+use Rattle.c2_collect_spec.proofs.Zips.{IsFree, Reads, ZipAt, all_picked, are_supers, box_label, free_of, higher, legal_supers, picked_distinct, reads_zip, supers_distinct, then_distinct, then_legal, then_supers, zip_at, zip_picked, zip_reads}
+use Rattle.c2_lemmas.proofs.Bools.{both_true, not_true_is_false}
+use Rattle.c2_lemmas.proofs.Each.{each_append, each_back, each_front, zip_append}
+use Rattle.c2_new_file_spec.proofs.Valid.{boxes_kinds, unjudged_all}
+use Rattle.c2_spec.proofs.JumbfOneTree.{spells_once}
 
 -- ---- what the laws of other crates say
-
--- a list spells one tree
-abbrev pub OneTree : Type 0
-OneTree = (bytes : List ℕ) (t u : Tree) → SpellsTree bytes t → SpellsTree bytes u → t ≡ u
 
 -- a manifest comes to one reading
 abbrev pub OneReading : Type 0
 OneReading = (m : Manifest) (r s : Reading) → IsReading m r → IsReading m s → r ≡ s
 
--- all that is used of two stores that are joined
-pub record JoiningLaws : Type 0 where
-  pub tree : OneTree
-  pub reading : OneReading
-  pub join : ChainsJoin
-
 -- ---- stores that join
 
 -- two boxes of one spelling are one
-same_tree : OneTree → (t u : Tree) → IsLegalTree 2 t → IsLegalTree 2 u → tree_bytes t ≡ tree_bytes u → t ≡ u
-same_tree one t u a b e =
-    one (tree_bytes t) t u (record { whole = refl; legal = higher 1 2 t (lit≤ tt) a })
+same_tree : (t u : Tree) → IsLegalTree 2 t → IsLegalTree 2 u → tree_bytes t ≡ tree_bytes u → t ≡ u
+same_tree t u a b e =
+    spells_once (tree_bytes t) t u (record { whole = refl; legal = higher 1 2 t (lit≤ tt) a })
     (record { whole = e; legal = higher 1 2 u (lit≤ tt) b })
 
 -- two stores that don't clash by their bytes don't by what they are read as
-pub none_clashes : JoiningLaws
-    → (hash : Alg → List ℕ → List ℕ) (old other : Trees) (old_rs other_rs : List Reading) (old_roots other_roots : List ℕ)
+pub none_clashes : (hash : Alg → List ℕ → List ℕ) (old other : Trees) (old_rs other_rs : List Reading) (old_roots other_roots : List ℕ)
     → IsRootedStore hash old old_rs old_roots → IsRootedStore hash other other_rs other_roots
     → DoNotClash (supers_in old) (is_reached_from old_rs old_roots) (supers_in other) (is_reached_from other_rs other_roots)
     → NoneClashes old_rs (is_reached_from old_rs old_roots) other_rs (is_reached_from other_rs other_roots)
-none_clashes laws hash old other old_rs other_rs old_roots other_roots a b apart i p r s reached is at same =
-    (both.0, laws.reading (manifest_of theirs.it) s r (subst (λ (x : Tree). IsReading (manifest_of x) s) one ours.corresponds.0) theirs.corresponds.0)
+none_clashes hash old other old_rs other_rs old_roots other_roots a b apart i p r s reached is at same =
+    (both.0, one_reading_manifest (manifest_of theirs.it) s r (subst (λ (x : Tree). IsReading (manifest_of x) s) one ours.corresponds.0) theirs.corresponds.0)
   where
     theirs : ZipAt Reads (supers_in other) i r
     theirs = zip_at Reads (supers_in other) other_rs i r (reads_zip (supers_in other) other_rs b.reads b.stores) is
@@ -102,14 +89,9 @@ none_clashes laws hash old other old_rs other_rs old_roots other_roots a b apart
 
     one : ours.it ≡ theirs.it
     one =
-        same_tree laws.tree ours.it theirs.it (legal_at old 2 p ours.it a.legal ours.is)
+        same_tree ours.it theirs.it (legal_at old 2 p ours.it a.legal ours.is)
         (legal_at other 2 i theirs.it b.legal theirs.is)
         ((bytes_eq-Decides (tree_bytes ours.it) (tree_bytes theirs.it)).0 both.1)
-
--- what isn't so
-from_not : (a : Bool) → not a ≡ true → a ≡ false
-from_not true e = absurd (true≢false (sym e))
-from_not false e = refl
 
 -- a manifest has a label
 pub label_there : (t : Tree) → IsStoreBox t → (l : List ℕ) × (tree_label t ≡ Some l)
@@ -121,9 +103,10 @@ carried_free : (old : Trees) (reached : ℕ → Bool) (i : ℕ) (t : Tree)
     → is_carried_box (supers_in old) reached i t ≡ true → IsStoreBox t → IsFree old t
 carried_free old reached i t e k =
     let l = label_there t k in
-    free_of old t l.0 l.1 (from_not (has_same_label (supers_in old) t) (both_true (reached i) (not (has_same_label (supers_in old) t)) e).1)
+    free_of old t l.0 l.1
+    (not_true_is_false (has_same_label (supers_in old) t) (both_true (reached i) (not (has_same_label (supers_in old) t)) e).1)
 
--- so is that of each carried manifest
+-- the label of each carried manifest is free
 all_free : (old : Trees) (reached : ℕ → Bool) (k : ℕ) (ts : List Tree) → AllByRecursion IsStoreBox ts
     → AllByRecursion (IsFree old) (picked (is_carried_box (supers_in old) reached) k ts)
 all_free old reached k [] h = tt
@@ -137,8 +120,8 @@ all_free old reached k (t ∷ ts) h = step (is_carried_box (supers_in old) reach
     step false e rest = rest
 
 -- two stores that don't clash join to one
-pub rooted_join : JoiningLaws → RootedStoresJoin
-rooted_join laws hash old other old_rs other_rs old_roots other_roots a b apart =
+pub rooted_join : RootedStoresJoin
+rooted_join hash old other old_rs other_rs old_roots other_roots a b apart =
     let reached : ℕ → Bool = is_reached_from other_rs other_roots in
     let cs : List Tree = carried_trees (supers_in old) reached (supers_in other) in
     let picks : ℕ → Tree → Bool = is_carried_box (supers_in old) reached in
@@ -149,43 +132,22 @@ rooted_join laws hash old other old_rs other_rs old_roots other_roots a b apart 
     zip_picked Reads picks (is_carried old_rs reached) 0 (supers_in other) other_rs
     (λ i t r h. ap (λ x. reached i && not x) (box_label (supers_in old) old_rs t r old_zip h)) (reads_zip (supers_in other) other_rs b.reads b.stores) in
     record {
-      legal = then_legal 2 old cs a.legal (all_picked (IsLegalTree 2) picks 0 (supers_in other) (legal_supers 2 other b.legal));
-      distinct = then_distinct old cs a.distinct (picked_distinct picks 0 (supers_in other) (supers_distinct other b.distinct)) (all_free old reached 0 (supers_in other) b.stores);
-      stores = subst (AllByRecursion IsStoreBox) (sym supers) (each-append IsStoreBox (supers_in old) cs a.stores (all_picked IsStoreBox picks 0 (supers_in other) b.stores));
+      legal =
+          then_legal 2 old cs a.legal
+          (all_picked (IsLegalTree 2) picks 0 (supers_in other) (legal_supers 2 other b.legal));
+      distinct =
+          then_distinct old cs a.distinct (picked_distinct picks 0 (supers_in other) (supers_distinct other b.distinct))
+          (all_free old reached 0 (supers_in other) b.stores);
+      stores =
+          subst (AllByRecursion IsStoreBox) (sym supers)
+          (each_append IsStoreBox (supers_in old) cs a.stores (all_picked IsStoreBox picks 0 (supers_in other) b.stores));
       reads = subst (λ (ts : List Tree). AreReadings (map manifest_of ts) (joined old_rs reached other_rs)) (sym supers)
           (zip_reads (supers_in old ++ cs) (joined old_rs reached other_rs) (zip_append Reads (supers_in old) cs old_rs (picked (is_carried old_rs reached) 0 other_rs) old_zip zips));
-      rooted = (laws.join hash old_rs other_rs old_roots other_roots a.rooted b.rooted (none_clashes laws hash old other old_rs other_rs old_roots other_roots a b apart)).rooted;
+      rooted =
+          (chains_join hash old_rs other_rs old_roots other_roots a.rooted b.rooted (none_clashes hash old other old_rs other_rs old_roots other_roots a b apart)).rooted;
     }
 
 -- ---- a valid store
-
--- the rules of a place hold apart from the verdict
-unjudged_place : (hash : Alg → List ℕ → List ℕ) (said : Question → Verdict) (rs : List Reading) (i : ℕ)
-    → AllByRecursion Holds (place_tests (judged_tests hash said) rs i)
-    → AllByRecursion Holds (place_tests (unjudged_tests hash) rs i)
-unjudged_place hash said rs i h = go (is_reached rs i) (slice_get rs i) h
-  where
-    go : (b : Bool) (o : Option Reading) → AllByRecursion Holds (cond b (tests_of (judged_tests hash said) rs i o) [])
-        → AllByRecursion Holds (cond b (tests_of (unjudged_tests hash) rs i o) [])
-    go false o k = k
-    go true None k = k
-    go true (Some r) k =
-        let s = seen_at rs i r in
-        let v = option_map said (question_in r) in
-        each-append Holds (claim_tests r) (rest_tests hash s)
-        (each-front Holds (claim_tests r) (verdict_tests r v ++ rest_tests hash s) k)
-        (each-back Holds (verdict_tests r v) (rest_tests hash s) (each-back Holds (claim_tests r) (verdict_tests r v ++ rest_tests hash s) k))
-
--- those of all places
-unjudged_all : (hash : Alg → List ℕ → List ℕ) (said : Question → Verdict) (rs : List Reading) (n : ℕ)
-    → AllByRecursion Holds (downward (place_tests (judged_tests hash said) rs) n)
-    → AllByRecursion Holds (downward (place_tests (unjudged_tests hash) rs) n)
-unjudged_all hash said rs zero h = tt
-unjudged_all hash said rs (suc n) h =
-    let here = place_tests (judged_tests hash said) rs n in
-    let below = downward (place_tests (judged_tests hash said) rs) n in
-    each-append Holds (place_tests (unjudged_tests hash) rs n) (downward (place_tests (unjudged_tests hash) rs) n)
-    (unjudged_place hash said rs n (each-front Holds here below h)) (unjudged_all hash said rs n (each-back Holds here below h))
 
 -- the rules but the verdicts hold of the manifests of a valid store
 valid_chain : (hash : Alg → List ℕ → List ℕ) (said : Question → Verdict) (s : StoreReading)
@@ -194,25 +156,7 @@ valid_chain hash said s h =
     let rs : List Reading = s.readings in
     all_hold (chain_tests (unjudged_tests hash) rs)
     (unjudged_all hash said rs (length rs)
-    (each-front Holds (chain_tests (judged_tests hash said) rs) (last_tests hash s.binding (active_in rs)) (each-back Holds (active_tests (active_in rs)) _ (all_each (check_list hash said s) h))))
-
--- a box of no ingredient is read as none
-box_kind : (b : Superbox) (r : ReadBox) → IsReadBox b r → is_ingredient r.boxed ≡ false → value_in r.ingredient ≡ None
-box_kind b r h e = ap value_in (go (is_ingredient b) (sym (ap is_ingredient h.same) ∙ e) h.reads)
-  where
-    go : (x : Bool) → x ≡ false
-        → MatchBool x (IsParsed (ingredient_of (box_version b)) b.item r.ingredient) (r.ingredient ≡ NoItem)
-        → r.ingredient ≡ NoItem
-    go true f m = absurd (true≢false f)
-    go false f m = m
-
--- each of a manifest
-boxes_kinds : (boxes : List Superbox) (reads : List ReadBox) → AllZip IsReadBox boxes reads
-    → AllByRecursion (λ (b : ReadBox). is_ingredient b.boxed ≡ false → value_in b.ingredient ≡ None) reads
-boxes_kinds [] [] h = tt
-boxes_kinds [] (r ∷ reads) h = absurd h
-boxes_kinds (b ∷ boxes) [] h = absurd h
-boxes_kinds (b ∷ boxes) (r ∷ reads) h = (box_kind b r h.0, boxes_kinds boxes reads h.1)
+    (each_front Holds (chain_tests (judged_tests hash said) rs) (last_tests hash s.binding (active_in rs)) (each_back Holds (active_tests (active_in rs)) _ (all_each (check_list hash said s) h))))
 
 -- each of a chain
 all_kinds : (ms : List Manifest) (rs : List Reading) → AreReadings ms rs → AllReadKinds rs
@@ -225,25 +169,31 @@ valid_rooted rooted hash said t s h =
     let boxes : Trees = boxes_in t in
     let inside = legal_inside t h.legal in
     let supers : supers_of t ≡ supers_in boxes = supers_are t in
-    let stores : AllByRecursion IsStoreBox (supers_in boxes) = subst (AllByRecursion IsStoreBox) supers (store_boxes t h.store) in
+    let stores : AllByRecursion IsStoreBox (supers_in boxes) =
+    subst (AllByRecursion IsStoreBox) supers (store_boxes t h.store) in
     let ms : manifests_of t ≡ map manifest_of (supers_in boxes) = same_manifests t ∙ ap (map manifest_of) supers in
-    let reads : AreReadings (map manifest_of (supers_in boxes)) rs = subst (λ (x : List Manifest). AreReadings x rs) ms h.reads in
+    let reads : AreReadings (map manifest_of (supers_in boxes)) rs =
+    subst (λ (x : List Manifest). AreReadings x rs) ms h.reads in
     record {
       legal = inside.legal;
       distinct = inside.distinct;
       stores = stores;
       reads = reads;
-      rooted = rooted hash rs (store_differs boxes rs reads stores inside.distinct) (all_kinds (map manifest_of (supers_in boxes)) rs reads) (valid_chain hash said s h.valid);
+      rooted =
+          rooted hash rs (store_differs boxes rs reads stores inside.distinct)
+          (all_kinds (map manifest_of (supers_in boxes)) rs reads) (valid_chain hash said s h.valid);
     }
 
--- so can no boxes
+-- no boxes, as of a file without a store, can be joined
 pub none_rooted : NoStoreIsRooted
 none_rooted hash = record {
   legal = tt;
   distinct = tt;
   stores = tt;
   reads = tt;
-  rooted = record { differ = λ i j r s e f g. absurd (cc (e)); kinds = λ i r e. absurd (cc (e)); within = tt; holds = λ i r e is. absurd (cc (is)) };
+  rooted =
+      record
+      { differ = λ i j r s e f g. absurd (cc (e)); kinds = λ i r e. absurd (cc (e)); within = tt; holds = λ i r e is. absurd (cc (is)) };
 }
 
 -- ---- an accepted file
@@ -257,7 +207,7 @@ record IsFound (t : Tree) : Type 0 where
 here_tree : (a n b m : ℕ) (t u : Tree) → ◌≡◌ {A = Opening Tree} (located.here a n t) (located.here b m u) → t ≡ u
 here_tree a n b m t u e = cc (e)
 
--- it is legal and a store
+-- the box tree that a file is opened with is legal and a store
 found : (file : List ℕ) (start len : ℕ) (t : Tree) → IsOpened file (located.here start len t) → IsFound t
 found file start len t h = by_place h.0 h.2
   where
@@ -274,7 +224,7 @@ found file start len t h = by_place h.0 h.2
     by_place located.absent e = absurd (cc (e))
     by_place (located.here at n store) e = by_tree at n store e.0 e.1 e.2
 
--- so it can be joined
+-- the store of an accepted file can be joined
 pub accepted_rooted : StoreIsRooted → AcceptedFileIsRooted
 accepted_rooted rooted hash said file start len t s h =
     let o : IsFound t = found file start len t h.opened in
@@ -295,12 +245,15 @@ taken_less hash d boxes rs roots k h free room refusal =
     let may : AreAcceptedBy (is_reached_from rs roots) d.label rs d.redact =
     accepted (is_reached_from rs roots) d.label rs d.redact h.rooted.differ refusal in
     let vs : Trees = redacted_boxes d.redact boxes in
-    let left : length (supers_in vs) ≡ length rs = read_len (supers_in vs) k.ss k.reads ∙ less_len d.redact rs k.ss k.less in
+    let left : length (supers_in vs) ≡ length rs =
+    read_len (supers_in vs) k.ss k.reads ∙ less_len d.redact rs k.ss k.less in
     record {
       can_be = record {
         legal = k.legal;
         distinct = subst AreDistinctLabels (sym k.labels) h.distinct;
-        new = subst (λ os. IsNewLabel (Some d.label) os) (sym k.labels) (none_taken d.label boxes rs h.reads h.stores free);
+        new =
+            subst (λ os. IsNewLabel (Some d.label) os) (sym k.labels)
+            (none_taken d.label boxes rs h.reads h.stores free);
         manifests = k.stores;
         few = omega (arith, left, room);
       };
@@ -311,7 +264,7 @@ taken_less hash d boxes rs roots k h free room refusal =
       redactions = may.rules;
     }
 
--- so a store is taken over
+-- a rooted store is taken over
 pub rooted_taken : RedactedStoreIsRead → RootedStoreIsTaken
 rooted_taken less hash d boxes rs roots h free room refusal =
     let k : IsReadLess d.redact boxes rs = less d.redact boxes rs h.legal h.stores h.reads in

@@ -27,7 +27,8 @@ use Rattle.c2_collect_spec.proofs.Stages.{NeverRefuses, comes_out, then_never, u
 -- ---- the inputs
 
 -- the media
-media_never : (media : List ℕ) → ((reason : Reason) (number : ℕ) → IsOpened media (refused reason number) → ⊥) → NeverRefuses (IsMediaStage media)
+media_never : (media : List ℕ) → ((reason : Reason) (number : ℕ) → IsOpened media (refused reason number) → ⊥)
+    → NeverRefuses (IsMediaStage media)
 media_never media pass e h = by h.0 h.1 h.2
   where
     by : (what : Opening Tree) → IsOpened media what → Err e ≡ media_stage what → ⊥
@@ -36,7 +37,8 @@ media_never media pass e h = by h.0 h.1 h.2
     by (here start len t) o q = cc (q)
 
 -- the definition
-definition_never : (file : List ℕ) → ((field : DefinitionField) → IsDefinition file (Err field) → ⊥) → NeverRefuses (IsDefinitionStage file)
+definition_never : (file : List ℕ) → ((field : DefinitionField) → IsDefinition file (Err field) → ⊥)
+    → NeverRefuses (IsDefinitionStage file)
 definition_never file pass e h = by h.0 h.1 h.2
   where
     by : (r : Result Definition DefinitionField) → IsDefinition file r → Err e ≡ definition_stage r → ⊥
@@ -44,7 +46,8 @@ definition_never file pass e h = by h.0 h.1 h.2
     by (Err field) is q = pass field is
 
 -- the message
-message_never : (protected bytes : List ℕ) → ((test : SignaturePart) → IsRefused protected bytes test → ⊥) → NeverRefuses (IsMessageStage protected bytes)
+message_never : (protected bytes : List ℕ) → ((test : SignaturePart) → IsRefused protected bytes test → ⊥)
+    → NeverRefuses (IsMessageStage protected bytes)
 message_never protected bytes pass e h = by h.0 h.1 h.2
   where
     by : (m : Result SignParts SignaturePart) → IsMessageRead protected bytes m → Err e ≡ message_stage m → ⊥
@@ -55,19 +58,23 @@ message_never protected bytes pass e h = by h.0 h.1 h.2
 
 -- the media's store
 parent_never : (hash : Alg → List ℕ → List ℕ) (said : Question → Verdict) (media definition other : List ℕ) (what : Opening Tree)
-    → IsCollectPlanUnrefused hash said media definition other → IsMediaStage media (Ok what) → NeverRefuses (IsParentStage hash said media what)
+    → IsCollectPlanUnrefused hash said media definition other → IsMediaStage media (Ok what)
+    → NeverRefuses (IsParentStage hash said media what)
 parent_never hash said media definition other what h is_media e k =
-    unless_never (parent_refusals k.0) (λ s. s ≡ Ok k.0) (h.parent_passes what k.0 (opened_as media what is_media) k.1) (value_never k.0) e k.2
+    unless_never (parent_refusals k.0) (λ s. s ≡ Ok k.0) (h.parent_passes what k.0 (opened_as media what is_media) k.1)
+    (value_never k.0) e k.2
 
--- the other file
+-- the other file is never refused where nothing is refused of the inputs
 other_never : (hash : Alg → List ℕ → List ℕ) (said : Question → Verdict) (media definition other : List ℕ)
     → IsCollectPlanUnrefused hash said media definition other → NeverRefuses (IsOtherStage hash said other)
 other_never hash said media definition other h e k =
-    unless_never (other_refusals k.2.0.answer) (λ s. s ≡ Ok k.2.0) (h.other_passes k.0 k.2.0 k.1 k.2.1) (value_never k.2.0) e k.2.2
+    unless_never (other_refusals k.2.0.answer) (λ s. s ≡ Ok k.2.0) (h.other_passes k.0 k.2.0 k.1 k.2.1)
+    (value_never k.2.0) e k.2.2
 
--- both stores together
+-- both stores together are never refused where nothing is refused of the inputs
 joined_never : (hash : Alg → List ℕ → List ℕ) (said : Question → Verdict) (media definition other : List ℕ) (what : Opening Tree) (d : Definition) (m : MediaFile) (o : OtherFile)
-    → IsCollectPlanUnrefused hash said media definition other → IsMediaStage media (Ok what) → IsDefinition definition (Ok d)
+    → IsCollectPlanUnrefused hash said media definition other → IsMediaStage media (Ok what)
+    → IsDefinition definition (Ok d)
     → IsMediaPassed hash said media what m → IsOtherPassed hash said other o → NeverRefuses (IsJoinedStage d m o)
 joined_never hash said media definition other what d m o h is_media defined own theirs e k =
     let pair : IsFilePair hash said media other (pair_of m o k.0) = record {
@@ -79,11 +86,13 @@ joined_never hash said media definition other what d m o h is_media defined own 
       is_other = theirs.is;
       is_clash = k.1;
     } in
-    unless_never (joined_refusals d (pair_of m o k.0)) (λ s. s ≡ Ok (pair_of m o k.0)) (h.joined_passes d (pair_of m o k.0) defined pair) (value_never (pair_of m o k.0)) e k.2
+    unless_never (joined_refusals d (pair_of m o k.0)) (λ s. s ≡ Ok (pair_of m o k.0))
+    (h.joined_passes d (pair_of m o k.0) defined pair) (value_never (pair_of m o k.0)) e k.2
 
--- so both files
+-- both files are never refused where nothing is refused of their inputs
 pair_never : (hash : Alg → List ℕ → List ℕ) (said : Question → Verdict) (media definition other : List ℕ) (what : Opening Tree) (d : Definition)
-    → IsCollectPlanUnrefused hash said media definition other → IsMediaStage media (Ok what) → IsDefinition definition (Ok d)
+    → IsCollectPlanUnrefused hash said media definition other → IsMediaStage media (Ok what)
+    → IsDefinition definition (Ok d)
     → NeverRefuses (IsPairStage hash said media other what d)
 pair_never hash said media definition other what d h is_media defined =
     then_never (IsParentStage hash said media what) _ (parent_never hash said media definition other what h is_media) (λ m is_m.
@@ -96,13 +105,14 @@ pair_never hash said media definition other what d h is_media defined =
 ground_never : (d : Definition) (p : FilePair) → NeverRefuses (IsGroundStage d p)
 ground_never d p e h = cc (h.2.2)
 
--- it is of both files
+-- what a new file is built of is of both files
 ground_pair : (d : Definition) (p : FilePair) (g : CollectGround) → IsGroundStage d p (Ok g) → p ≡ g.pair
 ground_pair d p g h = let e = h.2.2 in cc (e)
 
 -- nothing is refused of a new file
 file_none : (hash : Alg → List ℕ → List ℕ) (said : Question → Verdict) (media definition other : List ℕ) (what : Opening Tree) (d : Definition) (p : FilePair) (g : CollectGround)
-    → IsCollectPlanUnrefused hash said media definition other → IsMediaStage media (Ok what) → IsDefinition definition (Ok d)
+    → IsCollectPlanUnrefused hash said media definition other → IsMediaStage media (Ok what)
+    → IsDefinition definition (Ok d)
     → IsPairStage hash said media other what d (Ok p) → IsGroundStage d p (Ok g) → ground_refusals d g ≡ []
 file_none hash said media definition other what d p g h is_media defined is_p is_g =
     let same : p ≡ g.pair = ground_pair d p g is_g in
@@ -113,7 +123,8 @@ file_none hash said media definition other what d p g h is_media defined is_p is
 -- ---- both calls
 
 -- a plan
-plan_never : (hash : Alg → List ℕ → List ℕ) (said : Question → Verdict) (media definition other : List ℕ) → IsCollectPlanUnrefused hash said media definition other
+plan_never : (hash : Alg → List ℕ → List ℕ) (said : Question → Verdict) (media definition other : List ℕ)
+    → IsCollectPlanUnrefused hash said media definition other
     → NeverRefuses (IsCollectPlanned hash said media definition other)
 plan_never hash said media definition other h =
     then_never (IsMediaStage media) _ (media_never media h.media_passes) (λ what is_media.
@@ -124,8 +135,9 @@ plan_never hash said media definition other h =
     unless_never (ground_refusals d g) (λ r. r ≡ Ok (ground_signed hash d g))
     (file_none hash said media definition other what d p g h is_media defined is_p is_g) (value_never (ground_signed hash d g))))))
 
--- and a new file
-made_never : (hash : Alg → List ℕ → List ℕ) (said : Question → Verdict) (media definition message other : List ℕ) → IsCollectUnrefused hash said media definition message other
+-- a new file is never refused where nothing is refused of its inputs
+made_never : (hash : Alg → List ℕ → List ℕ) (said : Question → Verdict) (media definition message other : List ℕ)
+    → IsCollectUnrefused hash said media definition message other
     → NeverRefuses (IsCollectMade hash said media definition message other)
 made_never hash said media definition message other h =
     then_never (IsMediaStage media) _ (media_never media h.plan.media_passes) (λ what is_media.
@@ -139,14 +151,16 @@ made_never hash said media definition message other h =
     unless_never (ground_refusals d g ++ reserve_refusals d parts) (IsNewFile hash d parts g)
     (none_both (ground_refusals d g) (reserve_refusals d parts) ground reserve) (λ e k. cc (k.2.2)))))))
 
--- so bytes are planned
+-- where nothing is refused, bytes are planned
 pub unrefused_plan : SomeCollectPlan → UnrefusedIsCollectPlanned
 unrefused_plan some hash said media definition other own theirs h =
     let r = some hash said media definition other own theirs in
-    comes_out (IsCollectPlanned hash said media definition other) r.0 r.1 (plan_never hash said media definition other h)
+    comes_out (IsCollectPlanned hash said media definition other) r.0 r.1
+    (plan_never hash said media definition other h)
 
--- and a file is made
+-- where nothing is refused, a new file is made
 pub unrefused_made : SomeCollectMade → UnrefusedIsCollectMade
 unrefused_made some hash said media definition message other own theirs are h =
     let r = some hash said media definition message other own theirs are in
-    comes_out (IsCollectMade hash said media definition message other) r.0 r.1 (made_never hash said media definition message other h)
+    comes_out (IsCollectMade hash said media definition message other) r.0 r.1
+    (made_never hash said media definition message other h)

@@ -1,4 +1,15 @@
 -- The file that is built whose new store collects from two files meets all that is said of it.
+use Rattle.c2_collect_spec.proofs.Collecting.{of_either}
+use Rattle.c2_new_content_spec.proofs.ContentLaws.{a_gathered_store_meets_the_rules_reaches}
+use Rattle.c2_collect_spec.proofs.Collecting.{collected_reaches}
+use Rattle.c2_collect_spec.proofs.Filed.{file_reaches}
+use Rattle.c2_new_content_spec.proofs.ContentLaws.{a_gathered_store_meets_the_rules_meets}
+use Rattle.c2_new_file_spec.proofs.ParentLaws.{a_redacted_store_is_read_less}
+use Rattle.c2_collect_spec.proofs.Collecting.{collected_meets}
+use Rattle.c2_collect_spec.proofs.Filed.{collected_content_meets}
+use Rattle.c2_new_content_spec.proofs.SplitLaws.{a_place_is_a_split_file}
+use Rattle.c2_collect_spec.proofs.Filed.{collected_place}
+use Rattle.c2_new_content_spec.proofs.SplitLaws.{a_base_stays}
 use Rattle.std.proofs.Common.{◌≡◌, ℕ, List, ◌∷◌, length, Some, sym, ap, ◌∙◌, subst}
 use Rattle.c2_base.specs.declared.values.Question.{Question}
 use Rattle.c2_spec.specs.C2pa.Manifest.{manifests_of}
@@ -12,40 +23,32 @@ use Rattle.c2_spec.specs.declared.panel.Verdict.{Verdict}
 use Rattle.c2_rules.specs.CheckList.{StoreReading}
 use Rattle.c2_pad.specs.Fill.{fill_pairs}
 use Rattle.c2_definition.specs.declared.types.Definition.{Definition}
-use Rattle.c2_new_store_spec.specs.Fresh.{Meets}
-use Rattle.c2_new_store_spec.specs.Store.{Content, new_alg, new_claim}
-use Rattle.c2_new_file_spec.specs.Meeting.{BaseStays}
+use Rattle.c2_new_file_spec.specs.Fresh.{MeetsTheRules}
+use Rattle.c2_new_file_spec.specs.Store.{Content, new_alg, new_claim}
 use Rattle.c2_new_file_spec.specs.Places.{place_binding, place_question, place_start, place_store, put_bytes, range_len}
-use Rattle.c2_collect_spec.specs.Collected.{AreApproved, QuestionsAreOfEither}
-use Rattle.c2_collect_spec.specs.Files.{CollectedFileMeets, CollectedFileReaches}
+use Rattle.c2_collect_spec.specs.Collected.{AreApproved}
 use Rattle.c2_collect_spec.specs.Stores.{IsAcceptedFile}
 use Rattle.c2_collect_spec.specs.Whole.{EachCollectedFileMeets, pair_questions}
-use Rattle.c2_collect_spec.proofs.Approved.{HasQuestionThen, approved_is_valid}
-
--- what the laws of this crate and of others say
-pub record WholeLaws : Type 0 where
-  pub meets : CollectedFileMeets
-  pub reaches : CollectedFileReaches
-  pub either : QuestionsAreOfEither
-  pub stays : BaseStays
-  pub asks : HasQuestionThen
+use Rattle.c2_collect_spec.proofs.Approved.{approved_is_valid}
 
 -- a file that meets the rules is accepted by judges who approve its questions
-meeting_accepted : HasQuestionThen → (hash : Alg → List ℕ → List ℕ) (file : List ℕ) (start len : ℕ) (t : Tree) (qs : List Question)
-    → Meets hash file start len t qs → (said : Question → Verdict) → AreApproved said qs
+meeting_accepted : (hash : Alg → List ℕ → List ℕ) (file : List ℕ) (start len : ℕ) (t : Tree) (qs : List Question)
+    → MeetsTheRules hash file start len t qs → (said : Question → Verdict) → AreApproved said qs
     → (s : StoreReading) × IsAcceptedFile hash said file start len t s
-meeting_accepted asks hash file start len t qs m said all = (
+meeting_accepted hash file start len t qs m said all = (
   m.reading,
   record {
     opened = m.opened;
     reads = m.reads;
-    valid = approved_is_valid asks hash said (manifests_of t) m.reading m.reads.reads.each m.holds (subst (AreApproved said) (sym m.asks) all);
+    valid =
+        approved_is_valid hash said (manifests_of t) m.reading m.reads.reads.each m.holds
+        (subst (AreApproved said) (sym m.asks) all);
   },
 )
 
 -- each file meets it
-pub each_meets : WholeLaws → EachCollectedFileMeets
-each_meets laws hash d pair parts p file digests b = record {
+pub each_meets : EachCollectedFileMeets
+each_meets hash d pair parts p file digests b = record {
   len = len;
   range = ap (λ n. range_len p x n) b.signed.filled;
   store = t;
@@ -53,11 +56,14 @@ each_meets laws hash d pair parts p file digests b = record {
   question = q;
   meets = met;
   signed = signed;
-  either = laws.either hash pair.media.boxes pair.other.boxes pair.media.readings pair.other.readings b.collected.can.joins;
-  reaches = λ s reads. laws.reaches hash d pair.media.boxes pair.other.boxes pair.media.readings pair.other.readings b.content b.message base file p own s digests b.collected b.can b.signed.spelled reads;
+  either =
+      of_either hash pair.media.boxes pair.other.boxes pair.media.readings pair.other.readings
+      b.collected.can.joins;
+  reaches =
+      λ s reads. (file_reaches (collected_reaches a_redacted_store_is_read_less a_gathered_store_meets_the_rules_reaches)) hash d pair.media.boxes pair.other.boxes pair.media.readings pair.other.readings b.content b.message base file p own s digests b.collected b.can b.signed.spelled reads;
   base = subst (λ (f : List ℕ). taken_out (place_start p) len f ≡ base) (sym b.is)
-      (laws.stays (hash (new_alg b.content.definition)) x b.message base b.bytes p (λ text. (digests (new_alg b.content.definition) text).sized) b.can put);
-  accepted = meeting_accepted laws.asks hash file (place_start p) len t (q ∷ pair_questions pair) met;
+      (a_base_stays (hash (new_alg b.content.definition)) x b.message base b.bytes p (λ text. (digests (new_alg b.content.definition) text).sized) b.can put);
+  accepted = meeting_accepted hash file (place_start p) len t (q ∷ pair_questions pair) met;
 }
   where
     x : Content
@@ -82,13 +88,15 @@ each_meets laws hash d pair parts p file digests b = record {
     put = subst (λ (e : Definition). put_bytes p (tree_bytes (place_store (hash (new_alg e)) x b.message base p)) ≡ Some b.bytes)
         (sym b.collected.content.definition) b.put
 
-    met : Meets hash file (place_start p) len t (q ∷ pair_questions pair)
-    met = subst (λ (f : List ℕ). Meets hash f (place_start p) len t (q ∷ pair_questions pair)) (sym b.is)
-        (laws.meets hash d pair.media.boxes pair.other.boxes pair.media.readings pair.other.readings b.content b.message base b.bytes p own digests b.collected b.can b.signed.spelled put)
+    met : MeetsTheRules hash file (place_start p) len t (q ∷ pair_questions pair)
+    met = subst (λ (f : List ℕ). MeetsTheRules hash f (place_start p) len t (q ∷ pair_questions pair)) (sym b.is)
+        ((collected_place a_place_is_a_split_file (collected_content_meets (collected_meets a_redacted_store_is_read_less a_gathered_store_meets_the_rules_meets))) hash d pair.media.boxes pair.other.boxes pair.media.readings pair.other.readings b.content b.message base b.bytes p own digests b.collected b.can b.signed.spelled put)
 
     -- what is signed of a definition, with this protected header and so many bytes for the message
     signed_with : Definition → List ℕ → ℕ → List ℕ
-    signed_with e protected n = deterministic (sig_structure protected (new_claim (hash (new_alg e)) x (place_binding (hash (new_alg e)) x n base p)))
+    signed_with e protected n =
+        deterministic
+        (sig_structure protected (new_claim (hash (new_alg e)) x (place_binding (hash (new_alg e)) x n base p)))
 
     signed : signed_with b.content.definition own.protected (length b.message) ≡ signed_with d d.protected d.reserve
     signed = ap (λ (h : List ℕ). signed_with b.content.definition h (length b.message)) b.own

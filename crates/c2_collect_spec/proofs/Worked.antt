@@ -33,22 +33,24 @@ use Rattle.c2_pad.specs.Fill.{fill_pairs}
 use Rattle.c2_definition.specs.declared.types.Definition.{Definition}
 use Rattle.c2_new_signature.specs.Refusals.{reserve_needed}
 use Rattle.c2_new_signature.specs.Signed.{FillsOrNeedsMore, IsSigned, NeedsMore}
-use Rattle.c2_new_store_spec.specs.Fresh.{GivesDigests, Meets, fresh_content}
-use Rattle.c2_new_store_spec.specs.Manifests.{manifest_of}
-use Rattle.c2_new_store_spec.specs.Store.{Content, new_manifest}
-use Rattle.c2_new_store_spec.specs.Written.{CanBeWritten, HasTexts}
-use Rattle.c2_new_store_spec.proofs.ByIndex.{same_manifests}
+use Rattle.c2_new_file_spec.specs.Fresh.{GivesDigests, MeetsTheRules, fresh_content}
+use Rattle.c2_new_file_spec.specs.Manifests.{manifest_of}
+use Rattle.c2_new_file_spec.specs.Store.{Content, new_manifest}
+use Rattle.c2_new_file_spec.specs.Written.{CanBeWritten, HasTexts}
+use Rattle.c2_new_file_spec.proofs.ByIndex.{same_manifests}
 use Rattle.c2_new_file_spec.specs.Meeting.{FreshPlaceMeets}
 use Rattle.c2_new_file_spec.specs.Places.{CanPut, IsPlace, Place, in_segments, place_binding, place_file, place_question, place_start, place_store, range_len, store_len}
 use Rattle.c2_collect_spec.specs.Collected.{AreApproved}
 use Rattle.c2_collect_spec.specs.Stores.{IsAcceptedFile}
-use Rattle.c2_collect_spec.proofs.Approved.{HasQuestionThen, approved_is_valid}
+use Rattle.c2_collect_spec.proofs.Approved.{approved_is_valid}
 
 -- ---- the definitions
 
 -- a definition under this label
 abbrev pub defined : List ℕ → Definition
-defined label = record { label = label; instance_id = codes "i"; generator = codes "g"; title = None; protected = 10 ∷ []; reserve = 64; assertions = []; redact = []; alg = Sha256 }
+defined label =
+    record
+    { label = label; instance_id = codes "i"; generator = codes "g"; title = None; protected = 10 ∷ []; reserve = 64; assertions = []; redact = []; alg = Sha256 }
 
 -- the label of the first
 abbrev pub first_label : List ℕ
@@ -70,7 +72,7 @@ first_texts = record {
   redact = tt;
 }
 
--- so are those of the second
+-- the texts of the second definition are texts
 pub second_texts : HasTexts (defined second_label)
 unfolding lib.Utf8.encode
 second_texts = record {
@@ -86,15 +88,19 @@ second_texts = record {
 pub first_written : CanBeWritten (defined first_label)
 unfolding uuid_on_literals
 first_written = record {
-  formed = record { label = refl; instance = refl; generator = refl; protected = lit≤ tt; least = lit≤ tt; most = lit≤ tt; labels = tt; differ = refl; payloads = tt };
+  formed =
+      record
+      { label = refl; instance = refl; generator = refl; protected = lit≤ tt; least = lit≤ tt; most = lit≤ tt; labels = tt; differ = refl; payloads = tt };
   texts = first_texts;
 }
 
--- so can the second
+-- the second definition can be written
 pub second_written : CanBeWritten (defined second_label)
 unfolding uuid_on_literals
 second_written = record {
-  formed = record { label = refl; instance = refl; generator = refl; protected = lit≤ tt; least = lit≤ tt; most = lit≤ tt; labels = tt; differ = refl; payloads = tt };
+  formed =
+      record
+      { label = refl; instance = refl; generator = refl; protected = lit≤ tt; least = lit≤ tt; most = lit≤ tt; labels = tt; differ = refl; payloads = tt };
   texts = second_texts;
 }
 
@@ -102,18 +108,24 @@ second_written = record {
 
 -- SOI, the APP0 segment of JFIF, and EOI
 abbrev pub media : List ℕ
-media = 0xFF ∷ 0xD8 ∷ 0xFF ∷ 0xE0 ∷ 0x00 ∷ 0x10 ∷ 0x4A ∷ 0x46 ∷ 0x49 ∷ 0x46 ∷ 0x00 ∷ 0x01 ∷ 0x02 ∷ 0x00 ∷ 0x00 ∷ 0x01 ∷ 0x00 ∷ 0x01 ∷ 0x00 ∷ 0x00 ∷ 0xFF ∷ 0xD9 ∷ []
+media =
+    0xFF ∷ 0xD8 ∷ 0xFF ∷ 0xE0 ∷ 0x00 ∷ 0x10 ∷ 0x4A ∷ 0x46 ∷ 0x49 ∷ 0x46 ∷ 0x00 ∷ 0x01 ∷ 0x02 ∷ 0x00 ∷ 0x00 ∷ 0x01 ∷ 0x00
+    ∷ 0x01 ∷ 0x00 ∷ 0x00 ∷ 0xFF ∷ 0xD9 ∷ []
 
--- its segment
+-- the APP0 segment of JFIF
 abbrev pub jfif : Segment
-jfif = record { fill = 0; marker = 0xE0; payload = 0x4A ∷ 0x46 ∷ 0x49 ∷ 0x46 ∷ 0x00 ∷ 0x01 ∷ 0x02 ∷ 0x00 ∷ 0x00 ∷ 0x01 ∷ 0x00 ∷ 0x01 ∷ 0x00 ∷ 0x00 ∷ [] }
+jfif =
+    record
+    { fill = 0; marker = 0xE0; payload = 0x4A ∷ 0x46 ∷ 0x49 ∷ 0x46 ∷ 0x00 ∷ 0x01 ∷ 0x02 ∷ 0x00 ∷ 0x00 ∷ 0x01 ∷ 0x00 ∷ 0x01 ∷ 0x00 ∷ 0x00 ∷ [] }
 
--- it has no other
+-- the media has one segment
 one_segment : IsOfSegments media (jfif ∷ [])
 one_segment = record {
   fits = lit< tt;
   rest = 0xFF ∷ 0xD9 ∷ [];
-  begins = record { bytes = refl; each = (record { marker = refl; alone = λ h. absurd (false≢true h); fits = lit< tt }, tt) };
+  begins =
+      record
+      { bytes = refl; each = (record { marker = refl; alone = λ h. absurd (false≢true h); fits = lit< tt }, tt) };
   ends = record { fill = 0; marker = 0xD9; more = []; bytes = refl; ends = inl refl };
 }
 
@@ -122,11 +134,13 @@ pub none_begins : NoneBegins (jfif ∷ [])
 unfolding is_first_packet is_store_start
 none_begins = (refl, tt)
 
--- so the file has none
+-- the media has no store
 no_store : HasNoJpegStore media
-no_store = record { fits = one_segment.fits; segments = jfif ∷ []; rest = one_segment.rest; begins = one_segment.begins; ends = one_segment.ends; none = none_begins }
+no_store =
+    record
+    { fits = one_segment.fits; segments = jfif ∷ []; rest = one_segment.rest; begins = one_segment.begins; ends = one_segment.ends; none = none_begins }
 
--- so it is opened as a file without one
+-- the media is opened as a file without a store
 pub is_absent : IsOpened media located.absent
 is_absent = (located.absent, no_store, refl)
 
@@ -134,9 +148,10 @@ is_absent = (located.absent, no_store, refl)
 abbrev pub place : Place
 place = in_segments (jfif ∷ []) (Some 0x0211)
 
--- of this file
+-- the place of packets in the media is this
 pub is_place : IsPlace media place
-is_place = (refl, one_segment, record { least = lit≤ tt; most = lit< tt; free = refl; first = λ n low high. absurd (omega (arith, low, high)) })
+is_place =
+    (refl, one_segment, record { least = lit≤ tt; most = lit< tt; free = refl; first = λ n low high. absurd (omega (arith, low, high)) })
 
 -- ---- the message
 
@@ -144,7 +159,7 @@ is_place = (refl, one_segment, record { least = lit≤ tt; most = lit< tt; free 
 abbrev pub message : List ℕ
 message = 0xD2 ∷ 0x84 ∷ 0x41 ∷ 0x0A ∷ 0xA0 ∷ 0xF6 ∷ 0x41 ∷ 0x00 ∷ []
 
--- its parts
+-- the parts of the message
 abbrev pub parts : SignParts
 parts = record { protected = 0x0A ∷ []; unprotected = dict no_pairs; signature = 0x00 ∷ [] }
 
@@ -159,7 +174,7 @@ legal = record { shallow = lit≤ tt; distinct = (tt, (tt, (tt, (tt, tt)))); no_
     bad (inr (inr (inr (inl h)))) = h
     bad (inr (inr (inr (inr h)))) = h
 
--- and plain
+-- the message is plain
 pub plain : IsPlainMessage parts
 plain = record { legal = legal; plain = (tt, (tt, (tt, (tt, tt)))) }
 
@@ -202,16 +217,17 @@ spelled = record {
   is = record { header = (no_pairs, refl); form = inr refl };
 }
 
--- it has eight bytes, which is enough without padding
+-- the message has eight bytes, which is enough without padding
 enough : reserve_needed 64 (length (bare_bytes parts)) ≡ None
 unfolding shortest_head
 enough = refl
 
--- it fills what is reserved
+-- the message fills what is reserved
 pub signed : FillsOrNeedsMore → (filled : List ℕ) × IsSigned parts 64 filled
 signed fills = by (fills.either message parts 64 (record { spelled = spelled; small = lit≤ tt; entries = no_pairs; can = record { map = refl; plain = plain; few = lit≤ tt; no_pad = tt; no_pad2 = tt }; most = lit≤ tt }))
   where
-    by : ((filled : List ℕ) × IsSigned parts 64 filled) ⊎ NeedsMore parts 64 → (filled : List ℕ) × IsSigned parts 64 filled
+    by : ((filled : List ℕ) × IsSigned parts 64 filled) ⊎ NeedsMore parts 64
+        → (filled : List ℕ) × IsSigned parts 64 filled
     by (inl s) = s
     by (inr n) = let bad = sym enough ∙ n.1 in absurd (cc (bad))
 
@@ -221,11 +237,11 @@ signed fills = by (fills.either message parts 64 (record { spelled = spelled; sm
 abbrev pub first : Content
 first = fresh_content (defined first_label)
 
--- its manifest, with this message
+-- the manifest of the first file, with this message
 abbrev pub manifest : (List ℕ → List ℕ) → List ℕ → Tree
 manifest hash filled = new_manifest hash first (place_binding hash first (length filled) media place) filled
 
--- its store
+-- the store of the first file
 abbrev pub store : (List ℕ → List ℕ) → List ℕ → Tree
 store hash filled = place_store hash first filled media place
 
@@ -237,64 +253,72 @@ first_file hash filled = place_file media place (packets_bytes (tree_bytes (stor
 abbrev pub first_len : List ℕ → ℕ
 first_len filled = range_len place first (length filled)
 
--- its store isn't too large
+-- the store of the first file isn't too large
 store_small : nat_lt MAX_STORE_LEN (store_len place first 64) ≡ false
 unfolding shortest_head
 store_small = refl
 
--- nor is the file
+-- the new file isn't too large
 file_small : nat_le FILE_LEN_LIMIT (length media + range_len place first 64) ≡ false
 unfolding shortest_head
 file_small = refl
 
--- so the store can be put in
+-- the store of the first file can be put in
 pub can_put : (filled : List ℕ) → length filled ≡ 64 → CanPut first (length filled) media place
 can_put filled e = record {
   place = record { is = is_place; free = none_begins };
   room = (0x0211, refl);
-  small = subst (λ n. store_len place first n ≤ MAX_STORE_LEN) (sym e) (ltb-false MAX_STORE_LEN (store_len place first 64) store_small);
-  fits = subst (λ n. length media + range_len place first n < FILE_LEN_LIMIT) (sym e) (leb-false FILE_LEN_LIMIT (length media + range_len place first 64) file_small);
+  small =
+      subst (λ n. store_len place first n ≤ MAX_STORE_LEN) (sym e)
+      (ltb-false MAX_STORE_LEN (store_len place first 64) store_small);
+  fits =
+      subst (λ n. length media + range_len place first n < FILE_LEN_LIMIT) (sym e)
+      (leb-false FILE_LEN_LIMIT (length media + range_len place first 64) file_small);
 }
 
 -- the file meets all rules but verdicts
-first_meets : FreshPlaceMeets → (hash : Alg → List ℕ → List ℕ) → GivesDigests hash → (filled : List ℕ) → (s : IsSigned parts 64 filled)
-    → Meets hash (first_file (hash Sha256) filled) (place_start place) (first_len filled) (store (hash Sha256) filled)
+first_meets : FreshPlaceMeets → (hash : Alg → List ℕ → List ℕ) → GivesDigests hash → (filled : List ℕ)
+    → (s : IsSigned parts 64 filled)
+    → MeetsTheRules hash (first_file (hash Sha256) filled) (place_start place) (first_len filled) (store (hash Sha256) filled)
     (place_question (hash Sha256) first (length filled) media place (padded_read parts (fill_pairs s.fill)) ∷ [])
 first_meets meets hash digests filled s =
     meets hash first filled media (packets_bytes (tree_bytes (store (hash Sha256) filled)) 0x0211) place
-    (padded_read parts (fill_pairs s.fill)) digests (record { carried = refl; ingredients = refl; redact = refl }) first_written
+    (padded_read parts (fill_pairs s.fill)) digests (record { carried = refl; ingredients = refl; redact = refl })
+    first_written
     (can_put filled s.filled) s.spelled refl
 
 -- judges who approve each question approve these
-all_approved : (said : Question → Verdict) → ((q : Question) → said q ≡ Approved) → (qs : List Question) → AreApproved said qs
+pub all_approved : (said : Question → Verdict) → ((q : Question) → said q ≡ Approved) → (qs : List Question)
+    → AreApproved said qs
 all_approved said all [] = tt
 all_approved said all (q ∷ qs) = (all q, all_approved said all qs)
 
 -- What is known of the first file: such judges accept it, and its one manifest has the first label.
 pub record IsFirst (hash : Alg → List ℕ → List ℕ) (said : Question → Verdict) (filled : List ℕ) : Type 0 where
   pub reading : StoreReading
-  pub accepted : IsAcceptedFile hash said (first_file (hash Sha256) filled) (place_start place) (first_len filled) (store (hash Sha256) filled) reading
+  pub accepted : IsAcceptedFile hash said (first_file (hash Sha256) filled) (place_start place) (first_len filled)
+      (store (hash Sha256) filled) reading
   pub own : Reading
   pub one : reading.readings ≡ own ∷ []
   pub label : label_in own ≡ first_label
 
 -- What one manifest is read as.
-record IsOneReading (m : Manifest) (rs : List Reading) : Type 0 where
-  reading : Reading
-  are : rs ≡ reading ∷ []
-  same : reading.manifest ≡ m
+pub record IsOneReading (m : Manifest) (rs : List Reading) : Type 0 where
+  pub reading : Reading
+  pub are : rs ≡ reading ∷ []
+  pub same : reading.manifest ≡ m
 
 -- one manifest is read as one
-one_reading : (m : Manifest) (rs : List Reading) → AllZip IsReading (m ∷ []) rs → IsOneReading m rs
+pub one_reading : (m : Manifest) (rs : List Reading) → AllZip IsReading (m ∷ []) rs → IsOneReading m rs
 one_reading m [] h = absurd h
 one_reading m (r ∷ []) h = record { reading = r; are = refl; same = h.0.same }
 one_reading m (r ∷ q ∷ rs) h = absurd h.1
 
--- so it is
-pub is_first : FreshPlaceMeets → HasQuestionThen → (hash : Alg → List ℕ → List ℕ) (said : Question → Verdict)
+-- the first file is as the record says
+pub is_first : FreshPlaceMeets → (hash : Alg → List ℕ → List ℕ) (said : Question → Verdict)
     → GivesDigests hash → ((q : Question) → said q ≡ Approved) → (filled : List ℕ) → IsSigned parts 64 filled
     → IsFirst hash said filled
-is_first meets asks hash said digests all filled s =
+is_first meets hash said digests all filled s =
     let t : Tree = store (hash Sha256) filled in
     let m = first_meets meets hash digests filled s in
     let r : StoreReading = m.reading in
@@ -306,7 +330,9 @@ is_first meets asks hash said digests all filled s =
       accepted = record {
         opened = m.opened;
         reads = m.reads;
-        valid = approved_is_valid asks hash said (manifests_of t) r m.reads.reads.each m.holds (all_approved said all (questions r.readings));
+        valid =
+            approved_is_valid hash said (manifests_of t) r m.reads.reads.each m.holds
+            (all_approved said all (questions r.readings));
       };
       own = k.reading;
       one = k.are;

@@ -1,5 +1,11 @@
 -- Worked files from which a build collects: those of `WorkedPair`, a file of the second definition, and the message. The build over them
 -- comes to a new file, so what is said of such files is said of some.
+use Rattle.c2_collect_spec.proofs.Making.{collected_made}
+use Rattle.c2_definition.proofs.TheLaws.{each_definition_is_read_one_way_one}
+use Rattle.c2_new_file_spec.proofs.FileLaws.{a_new_store_has_one_length_in_its_place}
+use Rattle.c2_new_signature.proofs.TheLaws.{a_message_fills_its_reserve_or_needs_more}
+use Rattle.c2_new_content_spec.proofs.SplitLaws.{a_base_stays, a_file_built_in_its_place_meets_the_rules_fresh}
+use Rattle.c2_chain_spec.proofs.ChainLaws.{a_store_is_rooted_at_its_last_manifest}
 use Rattle.std.proofs.Common.{◌≡◌, Bool, true, false, ℕ, List, [], ◌∷◌, ◌++◌, Some, refl, sym, ap, ◌∙◌, subst, codes, lit≤, option_and_then}
 use Rattle.std.specs.Prelude.{Ok}
 use Rattle.std.specs.List.{AllByRecursion}
@@ -21,7 +27,7 @@ use Rattle.c2_definition.specs.Json.{object_of}
 use Rattle.c2_definition.specs.declared.types.NewAssertion.{NewAssertion}
 use Rattle.c2_new_signature.specs.Message.{AreFew, HasNoPadding, IsAccepted}
 use Rattle.c2_new_signature.specs.Signed.{IsSigned}
-use Rattle.c2_new_store_spec.specs.Written.{HasTexts}
+use Rattle.c2_new_file_spec.specs.Written.{HasTexts}
 use Rattle.c2_new_file_spec.specs.Places.{place_start, range_len}
 use Rattle.c2_collect_spec.specs.Made.{CollectedIsMade, HasTextsIn, SomeCollectSucceeds}
 use Rattle.c2_collect_spec.specs.Order.{HasStore}
@@ -29,6 +35,8 @@ use Rattle.c2_collect_spec.specs.Outcomes.{IsCollectMade, NewFile}
 use Rattle.c2_collect_spec.proofs.OneOutcome.{OneDefinition, OneItem, same_message}
 use Rattle.c2_collect_spec.proofs.Worked.{IsFirst, defined, first_file, first_len, is_absent, is_first, media, message, parts, place, plain, second_label, second_texts, signed, spelled, store}
 use Rattle.c2_collect_spec.proofs.WorkedPair.{IsSecond, WorkedLaws, alone_file, twice_file}
+use Rattle.c2_cbor_spec.proofs.PlainBack.{one_item}
+use Rattle.c2_rules.proofs.ClaimLemmas.{claim_rules_ask}
 
 -- ---- the definition
 
@@ -43,21 +51,22 @@ member name text = quoted name ++ 0x3A ∷ quoted text ++ 0x2C ∷ []
 -- {"label":"urn:c2pa:00000000-0000-4000-8000-00000000000b","instance_id":"i","generator":"g","protected":"0A","reserve":64}
 abbrev definition_file : List ℕ
 definition_file =
-    0x7B ∷ member (codes "label") second_label ++ member (codes "instance_id") (codes "i") ++ member (codes "generator") (codes "g")
+    0x7B ∷ member (codes "label") second_label ++ member (codes "instance_id") (codes "i") ++ member (codes "generator")
+    (codes "g")
     ++ member (codes "protected") (codes "0A") ++ quoted (codes "reserve") ++ codes ":64}"
 
--- that is what it is read as
+-- the definition is what the definition file is read as
 defined_row : (payloads : Bool) → payloads ≡ true → definition_in payloads definition_file ≡ Ok (defined second_label)
 unfolding is_utf8 chars hex_on_literals uuid_on_literals serde_json_on_literals
 defined_row true e = refl
 defined_row false e = absurd (false≢true e)
 
--- it has no assertions
+-- the definition file has no assertions
 no_assertions : option_and_then assertions_in (object_of definition_file) ≡ Some []
 unfolding is_utf8 chars hex_on_literals uuid_on_literals serde_json_on_literals
 no_assertions = refl
 
--- so each of them has its payload
+-- each assertion of the definition file has its payload
 have_payloads : (v : Data) → object_of definition_file ≡ Some v → HavePayloads v
 have_payloads v at list is = by list (sym is ∙ (sym (ap (option_and_then assertions_in) at) ∙ no_assertions))
   where
@@ -70,19 +79,20 @@ is_defined : IsDefinition definition_file (Ok (defined second_label))
 is_defined = record { payloads = true; told = (λ e. have_payloads, λ h. refl); is = sym (defined_row true refl) }
 
 -- the texts of what the file is are texts
-texts_in : OneDefinition → HasTextsIn definition_file
-texts_in one d is =
-    let same : defined second_label ≡ d = cc (one definition_file (Ok (defined second_label)) (Ok d) is_defined is) in
+texts_in : HasTextsIn definition_file
+texts_in d is =
+    let same : defined second_label ≡ d =
+    cc (each_definition_is_read_one_way_one definition_file (Ok (defined second_label)) (Ok d) is_defined is) in
     subst HasTexts same second_texts
 
 -- ---- the message
 
--- it is accepted
-accepted : OneItem → IsAccepted (defined second_label).protected message
-accepted one = (lit≤ tt, ((parts, spelled), (λ p s. subst IsPlainMessage (same p s) plain, (λ p s. sym (ap (λ (q : SignParts). q.protected) (same p s)), (λ p s. few p (same p s), (λ p s. none p (same p s), tt))))))
+-- the message is accepted
+accepted : IsAccepted (defined second_label).protected message
+accepted = (lit≤ tt, ((parts, spelled), (λ p s. subst IsPlainMessage (same p s) plain, (λ p s. sym (ap (λ (q : SignParts). q.protected) (same p s)), (λ p s. few p (same p s), (λ p s. none p (same p s), tt))))))
   where
     same : (p : SignParts) → SpellsMessage message p → parts ≡ p
-    same p s = same_message one message parts p spelled s
+    same p s = same_message message parts p spelled s
 
     entries_none : (p : SignParts) → parts ≡ p → (entries : Pairs) → p.unprotected ≡ dict entries → no_pairs ≡ entries
     entries_none p e entries is = let own : dict no_pairs ≡ dict entries = ap (λ (q : SignParts). q.unprotected) e ∙ is in cc (own)
@@ -102,36 +112,55 @@ pub record SucceedLaws : Type 0 where
   pub item : OneItem
   pub made : CollectedIsMade
 
+-- they hold
+pub succeed_laws : SucceedLaws
+succeed_laws =
+    record {
+      worked =
+          record
+          { fills = a_message_fills_its_reserve_or_needs_more; meets = a_file_built_in_its_place_meets_the_rules_fresh; size = a_new_store_has_one_length_in_its_place; stays = a_base_stays; asks = claim_rules_ask; rooted = a_store_is_rooted_at_its_last_manifest };
+      definition = each_definition_is_read_one_way_one;
+      item = one_item;
+      made = (collected_made a_message_fills_its_reserve_or_needs_more);
+    }
+
 -- What a build comes to over files, the definition and the message among them.
 record IsBuiltFrom (hash : Alg → List ℕ → List ℕ) (said : Question → Verdict) (media other : List ℕ) : Type 0 where
   new : NewFile
   made : IsCollectMade hash said media definition_file message other (Ok new)
 
 -- a second file is what the build comes to
-second_made : SucceedLaws → (hash : Alg → List ℕ → List ℕ) (said : Question → Verdict) (own other : List ℕ) → IsSecond hash said own other → IsBuiltFrom hash said own other
-second_made l hash said own other k = record {
-  new = record { file = k.file; start = place_start place; len = range_len place k.is.content (defined second_label).reserve };
-  made = l.made hash said own definition_file message other (defined second_label) k.pair parts place k.file is_defined (accepted l.item) spelled k.read k.is;
+second_made : (hash : Alg → List ℕ → List ℕ) (said : Question → Verdict) (own other : List ℕ)
+    → IsSecond hash said own other → IsBuiltFrom hash said own other
+second_made hash said own other k = record {
+  new =
+      record
+      { file = k.file; start = place_start place; len = range_len place k.is.content (defined second_label).reserve };
+  made =
+      (collected_made a_message_fills_its_reserve_or_needs_more) hash said own definition_file message other
+      (defined second_label) k.pair parts place
+      k.file is_defined accepted spelled k.read k.is;
 }
 
--- so some build succeeds
-pub some_succeeds : SucceedLaws → SomeCollectSucceeds
-some_succeeds l stored hash said digests all = by stored
+-- some build that collects succeeds
+pub some_succeeds : SomeCollectSucceeds
+some_succeeds stored hash said digests all = by stored
   where
     s : (filled : List ℕ) × IsSigned parts 64 filled
-    s = signed l.worked.fills
+    s = signed a_message_fills_its_reserve_or_needs_more
 
     first : List ℕ
     first = first_file (hash Sha256) s.0
 
     k : IsFirst hash said s.0
-    k = is_first l.worked.meets l.worked.asks hash said digests all s.0 s.1
+    k = is_first a_file_built_in_its_place_meets_the_rules_fresh hash said digests all s.0 s.1
 
-    by : (b : Bool) → (media : List ℕ) × (definition : List ℕ) × (signature : List ℕ) × (other : List ℕ) × (new : NewFile) × HasStore b media × HasTextsIn definition
+    by : (b : Bool)
+        → (media : List ℕ) × (definition : List ℕ) × (signature : List ℕ) × (other : List ℕ) × (new : NewFile) × HasStore b media × HasTextsIn definition
         × IsCollectMade hash said media definition signature other (Ok new)
     by false =
-        let b = second_made l hash said media first (alone_file l.worked hash said digests s.0 s.1 k) in
-        (media, definition_file, message, first, b.new, is_absent, texts_in l.definition, b.made)
+        let b = second_made hash said media first (alone_file succeed_laws.worked hash said digests s.0 s.1 k) in
+        (media, definition_file, message, first, b.new, is_absent, texts_in, b.made)
     by true =
-        let b = second_made l hash said first first (twice_file l.worked hash said digests s.0 s.1 k) in
-        (first, definition_file, message, first, b.new, (place_start place, first_len s.0, store (hash Sha256) s.0, k.accepted.opened), texts_in l.definition, b.made)
+        let b = second_made hash said first first (twice_file succeed_laws.worked hash said digests s.0 s.1 k) in
+        (first, definition_file, message, first, b.new, (place_start place, first_len s.0, store (hash Sha256) s.0, k.accepted.opened), texts_in, b.made)

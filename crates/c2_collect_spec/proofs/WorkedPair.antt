@@ -1,4 +1,8 @@
 -- Worked files that collect: of the JPEG file without a store, and of the first file itself, the other file being the first file.
+use Rattle.c2_new_file_spec.proofs.FileLaws.{a_new_store_has_one_length_in_its_place}
+use Rattle.c2_new_signature.proofs.TheLaws.{a_message_fills_its_reserve_or_needs_more}
+use Rattle.c2_new_content_spec.proofs.SplitLaws.{a_base_stays, a_file_built_in_its_place_meets_the_rules_fresh}
+use Rattle.c2_chain_spec.proofs.ChainLaws.{a_store_is_rooted_at_its_last_manifest}
 use Rattle.std.proofs.Common.{◌≡◌, ℕ, ◌+◌, ◌<◌, ◌≤◌, Bool, true, false, cond, bytes_eq, List, [], ◌∷◌, ◌++◌, length, replicate, Some, None, refl, sym, ap, ◌∙◌, subst, arith, codes, lit<, slice_get, zero, suc, ◌&&◌, ◌||◌, length-append}
 use Rattle.std.specs.Prelude.{nat_le, nat_lt, not}
 use Rattle.std.specs.List.{AllZip, cons_option}
@@ -20,19 +24,18 @@ use Rattle.c2_rules.specs.CheckList.{answer_of, check_list, store_answer, summar
 use Rattle.c2_rules.specs.Readings.{Reading}
 use Rattle.c2_rules.specs.Tests.{first_failing}
 use Rattle.c2_rules.proofs.FirstLemmas.{none_fails}
-use Rattle.c2_rules.proofs.ListLemmas.{and_true}
 use Rattle.c2_rules.proofs.ReachLemmas.{place_is}
 use Rattle.c2_chain_spec.specs.Joined.{has_manifest, joined_roots}
 use Rattle.c2_chain_spec.specs.Rooted.{StoreIsRooted, last_roots}
 use Rattle.c2_definition.specs.declared.types.NewAssertion.{NewAssertion}
 use Rattle.c2_new_signature.specs.Signed.{FillsOrNeedsMore, IsSigned}
-use Rattle.c2_new_store_spec.specs.Built.{no_digest, store_size}
-use Rattle.c2_new_store_spec.specs.Fresh.{GivesDigests}
-use Rattle.c2_new_store_spec.specs.FreshBoxes.{contents_of, item_box, store_box}
-use Rattle.c2_new_store_spec.specs.Manifests.{supers_in}
-use Rattle.c2_new_store_spec.specs.Store.{Content, NamedManifest, data_binding, new_manifest}
-use Rattle.c2_new_store_spec.proofs.StoreSize.{store_len}
-use Rattle.c2_parent_spec.specs.Redacting.{boxes_in}
+use Rattle.c2_new_file_spec.specs.Built.{no_digest, store_size}
+use Rattle.c2_new_file_spec.specs.Fresh.{GivesDigests}
+use Rattle.c2_new_file_spec.specs.FreshBoxes.{contents_of, item_box, store_box}
+use Rattle.c2_new_file_spec.specs.Manifests.{supers_in}
+use Rattle.c2_new_file_spec.specs.Store.{Content, NamedManifest, data_binding, new_manifest}
+use Rattle.c2_new_file_spec.proofs.StoreSize.{store_len}
+use Rattle.c2_new_file_spec.specs.Redacting.{boxes_in}
 use Rattle.c2_new_file_spec.specs.Bases.{IsLeft}
 use Rattle.c2_new_file_spec.specs.Laws.{PlaceSizeIsFixed}
 use Rattle.c2_new_file_spec.specs.Meeting.{BaseStays, FreshPlaceMeets}
@@ -45,6 +48,8 @@ use Rattle.c2_collect_spec.specs.Stores.{IsRootedStore}
 use Rattle.c2_collect_spec.proofs.Approved.{HasQuestionThen}
 use Rattle.c2_collect_spec.proofs.Stores.{accepted_rooted, none_rooted}
 use Rattle.c2_collect_spec.proofs.Worked.{IsFirst, can_put, defined, first, first_file, first_label, first_len, is_absent, is_first, is_place, manifest, media, none_begins, parts, place, second_label, second_written, signed, store}
+use Rattle.c2_lemmas.proofs.Bools.{and_true}
+use Rattle.c2_rules.proofs.ClaimLemmas.{claim_rules_ask}
 
 -- ---- what the laws of other crates say
 
@@ -56,23 +61,40 @@ pub record WorkedLaws : Type 0 where
   pub asks : HasQuestionThen
   pub rooted : StoreIsRooted
 
+-- they hold
+pub worked_laws : WorkedLaws
+worked_laws =
+    record {
+      fills = a_message_fills_its_reserve_or_needs_more;
+      meets = a_file_built_in_its_place_meets_the_rules_fresh;
+      size = a_new_store_has_one_length_in_its_place;
+      stays = a_base_stays;
+      asks = claim_rules_ask;
+      rooted = a_store_is_rooted_at_its_last_manifest;
+    }
+
 -- ---- the manifest that the ingredients name
 
--- its signature box
+-- the signature box of the manifest that the ingredients name
 abbrev signature : List ℕ → Tree
 signature filled = item_box (codes "c2cs") (codes "c2pa.signature") filled
 
 -- the first manifest, as it stands in the new store
 abbrev named : (List ℕ → List ℕ) → List ℕ → NamedManifest
-named hash filled = record { label = first_label; contents = contents_of (manifest hash filled); signed = contents_of (signature filled) }
+named hash filled =
+    record
+    { label = first_label; contents = contents_of (manifest hash filled); signed = contents_of (signature filled) }
 
 -- the boxes that are carried: the first manifest alone
 abbrev carried : (List ℕ → List ℕ) → List ℕ → Trees
 carried hash filled = more (manifest hash filled) none
 
--- it stands at the one place
-is_named : (hash : List ℕ → List ℕ) (filled : List ℕ) → IsNamedAt (named hash filled) (supers_in (carried hash filled)) 0
-is_named hash filled = record { manifest = manifest hash filled; is_manifest = refl; label = refl; contents = refl; signature = signature filled; is_signature = refl; signed = refl }
+-- the manifest that is carried stands at the one place
+is_named : (hash : List ℕ → List ℕ) (filled : List ℕ)
+    → IsNamedAt (named hash filled) (supers_in (carried hash filled)) 0
+is_named hash filled =
+    record
+    { manifest = manifest hash filled; is_manifest = refl; label = refl; contents = refl; signature = signature filled; is_signature = refl; signed = refl }
 
 -- ---- the joined chain
 
@@ -86,7 +108,7 @@ one_differs r (suc i) j s t e f g = absurd (cc (e))
 alone_readings : (r : Reading) → collected_readings [] (r ∷ []) ≡ r ∷ []
 alone_readings r = refl
 
--- its root is its one manifest
+-- over no store the root of the joined chain is its one manifest
 alone_roots : (r : Reading) → collected_roots [] (r ∷ []) ≡ 0 ∷ []
 alone_roots r = ap (λ o. cons_option o []) (place_is (r ∷ []) 0 r (one_differs r) refl)
 
@@ -95,7 +117,7 @@ twice_readings : (r : Reading) → collected_readings (r ∷ []) (r ∷ []) ≡ 
 twice_readings r =
     ap (λ b. (r ∷ []) ++ cond (not (b || false)) (r ∷ []) []) ((bytes_eq-Decides (label_in r) (label_in r)).1 refl)
 
--- both roots are its one manifest
+-- both roots of a store that is collected over itself are its one manifest
 twice_roots : (r : Reading) → collected_roots (r ∷ []) (r ∷ []) ≡ 0 ∷ 0 ∷ []
 twice_roots r =
     ap (λ js. joined_roots (0 ∷ []) (r ∷ []) (0 ∷ []) js) (twice_readings r)
@@ -109,11 +131,15 @@ second_free r e = ap (λ l. bytes_eq l second_label || false) e
 
 -- over no store: the first manifest is a component
 abbrev alone : (List ℕ → List ℕ) → List ℕ → Content
-alone hash filled = record { definition = defined second_label; carried = carried hash filled; ingredients = collected_ingredients (named hash filled ∷ []) }
+alone hash filled =
+    record
+    { definition = defined second_label; carried = carried hash filled; ingredients = collected_ingredients (named hash filled ∷ []) }
 
--- over the same store: it is the parent too
+-- over a store that is collected as well the first manifest is a component and the parent
 abbrev twice : (List ℕ → List ℕ) → List ℕ → Content
-twice hash filled = record { definition = defined second_label; carried = carried hash filled; ingredients = collected_ingredients (named hash filled ∷ named hash filled ∷ []) }
+twice hash filled =
+    record
+    { definition = defined second_label; carried = carried hash filled; ingredients = collected_ingredients (named hash filled ∷ named hash filled ∷ []) }
 
 -- this goes in over no store
 alone_collects : (hash : List ℕ → List ℕ) (filled : List ℕ) (r : Reading)
@@ -122,18 +148,24 @@ alone_collects hash filled r = record {
   definition = refl;
   carried = refl;
   named = named hash filled ∷ [];
-  are = subst (λ (roots : List ℕ). AllZip (λ (p : NamedManifest) root. IsNamedAt p (supers_in (carried hash filled)) root) (named hash filled ∷ []) roots) (sym (alone_roots r)) (is_named hash filled, tt);
+  are =
+      subst
+      (λ (roots : List ℕ). AllZip (λ (p : NamedManifest) root. IsNamedAt p (supers_in (carried hash filled)) root) (named hash filled ∷ []) roots)
+      (sym (alone_roots r)) (is_named hash filled, tt);
   ingredients = refl;
 }
 
--- and this over the same store
+-- this content goes into a new store over a store that is collected as well
 twice_collects : (hash : List ℕ → List ℕ) (filled : List ℕ) (r : Reading)
     → CollectsFrom (defined second_label) (boxes_in (store hash filled)) (boxes_in (store hash filled)) (r ∷ []) (r ∷ []) (twice hash filled)
 twice_collects hash filled r = record {
   definition = refl;
   carried = refl;
   named = named hash filled ∷ named hash filled ∷ [];
-  are = subst (λ (roots : List ℕ). AllZip (λ (p : NamedManifest) root. IsNamedAt p (supers_in (carried hash filled)) root) (named hash filled ∷ named hash filled ∷ []) roots) (sym (twice_roots r)) (is_named hash filled, (is_named hash filled, tt));
+  are =
+      subst
+      (λ (roots : List ℕ). AllZip (λ (p : NamedManifest) root. IsNamedAt p (supers_in (carried hash filled)) root) (named hash filled ∷ named hash filled ∷ []) roots)
+      (sym (twice_roots r)) (is_named hash filled, (is_named hash filled, tt));
   ingredients = refl;
 }
 
@@ -153,9 +185,11 @@ bare = record { label = first_label; contents = []; signed = [] }
 
 -- what goes into a new store over the first manifest without digests, with ingredients that name such manifests
 abbrev bare_content : List NamedManifest → Content
-bare_content ps = record { definition = defined second_label; carried = more bare_manifest none; ingredients = collected_ingredients ps }
+bare_content ps =
+    record
+    { definition = defined second_label; carried = more bare_manifest none; ingredients = collected_ingredients ps }
 
--- its manifest without digests
+-- the new manifest of a content without digests
 abbrev bare_new : List NamedManifest → Tree
 bare_new ps = new_manifest (no_digest Sha256) (bare_content ps) no_binding (replicate 64 0)
 
@@ -163,11 +197,11 @@ bare_new ps = new_manifest (no_digest Sha256) (bare_content ps) no_binding (repl
 abbrev one_total : ℕ
 one_total = store_size (bare_content (bare ∷ [])) 64
 
--- and over the same store
+-- how many bytes the new store has over a store that is collected as well
 abbrev two_total : ℕ
 two_total = store_size (bare_content (bare ∷ bare ∷ [])) 64
 
--- neither is too large
+-- the new stores aren't too large
 one_small : nat_lt MAX_STORE_LEN one_total ≡ false
 unfolding shortest_head
 one_small = refl
@@ -176,7 +210,7 @@ two_small : nat_lt MAX_STORE_LEN two_total ≡ false
 unfolding shortest_head
 two_small = refl
 
--- nor is its file
+-- the new files aren't too large
 one_fits : nat_le FILE_LEN_LIMIT (length media + segments_len one_total) ≡ false
 unfolding shortest_head
 one_fits = refl
@@ -199,40 +233,47 @@ same_store m n new same =
     )
 
 -- the first manifest is as long as one without digests
-manifest_same : PlaceSizeIsFixed → (hash : Alg → List ℕ → List ℕ) → GivesDigests hash → (filled : List ℕ) → length filled ≡ 64
+manifest_same : PlaceSizeIsFixed → (hash : Alg → List ℕ → List ℕ) → GivesDigests hash → (filled : List ℕ)
+    → length filled ≡ 64
     → length (tree_bytes (manifest (hash Sha256) filled)) ≡ length (tree_bytes bare_manifest)
 manifest_same law hash digests filled e =
     let whole : length (tree_bytes (store (hash Sha256) filled)) ≡ places.store_len place first (length filled) =
     law (hash Sha256) first place (first_len filled) (hash Sha256 (bound_text media place)) filled (λ text. (digests Sha256 text).sized) (digests Sha256 (bound_text media place)).sized in
     by (manifest (hash Sha256) filled) bare_manifest (whole ∙ ap (places.store_len place first) e)
   where
-    by : (m n : Tree) → length (tree_bytes (store_box none m)) ≡ length (tree_bytes (store_box none n)) → length (tree_bytes m) ≡ length (tree_bytes n)
+    by : (m n : Tree) → length (tree_bytes (store_box none m)) ≡ length (tree_bytes (store_box none n))
+        → length (tree_bytes m) ≡ length (tree_bytes n)
     by m n same = omega (arith, same, store_len none m, store_len none n)
 
 -- a store of so many bytes can be put in
 can_put_in : (x : Content) (n : ℕ) (filled : List ℕ) → store_size x 64 ≡ n → nat_lt MAX_STORE_LEN n ≡ false
-    → nat_le FILE_LEN_LIMIT (length media + segments_len n) ≡ false → length filled ≡ 64 → CanPut x (length filled) media place
+    → nat_le FILE_LEN_LIMIT (length media + segments_len n) ≡ false → length filled ≡ 64
+    → CanPut x (length filled) media place
 can_put_in x n filled size small fits e = record {
   place = record { is = is_place; free = none_begins };
   room = (0x0211, refl);
-  small = subst (λ k. places.store_len place x k ≤ MAX_STORE_LEN) (sym e) (subst (λ k. k ≤ MAX_STORE_LEN) (sym size) (ltb-false MAX_STORE_LEN n small));
+  small =
+      subst (λ k. places.store_len place x k ≤ MAX_STORE_LEN) (sym e)
+      (subst (λ k. k ≤ MAX_STORE_LEN) (sym size) (ltb-false MAX_STORE_LEN n small));
   fits = subst (λ k. length media + range_len place x k < FILE_LEN_LIMIT) (sym e)
       (subst (λ k. length media + segments_len k < FILE_LEN_LIMIT) (sym size) (leb-false FILE_LEN_LIMIT (length media + segments_len n) fits));
 }
 
 -- the store can be put in, over no store
-alone_can : WorkedLaws → (hash : Alg → List ℕ → List ℕ) → GivesDigests hash → (filled : List ℕ) → length filled ≡ 64
+alone_can : (hash : Alg → List ℕ → List ℕ) → GivesDigests hash → (filled : List ℕ) → length filled ≡ 64
     → CanPut (alone (hash Sha256) filled) (length filled) media place
-alone_can l hash digests filled e =
+alone_can hash digests filled e =
     can_put_in (alone (hash Sha256) filled) one_total filled
-    (same_store (manifest (hash Sha256) filled) bare_manifest (bare_new (bare ∷ [])) (manifest_same l.size hash digests filled e)) one_small one_fits e
+    (same_store (manifest (hash Sha256) filled) bare_manifest (bare_new (bare ∷ [])) (manifest_same a_new_store_has_one_length_in_its_place hash digests filled e))
+    one_small one_fits e
 
--- and over the same store
-twice_can : WorkedLaws → (hash : Alg → List ℕ → List ℕ) → GivesDigests hash → (filled : List ℕ) → length filled ≡ 64
+-- the new store can be put in, over a store that is collected as well
+twice_can : (hash : Alg → List ℕ → List ℕ) → GivesDigests hash → (filled : List ℕ) → length filled ≡ 64
     → CanPut (twice (hash Sha256) filled) (length filled) media place
-twice_can l hash digests filled e =
+twice_can hash digests filled e =
     can_put_in (twice (hash Sha256) filled) two_total filled
-    (same_store (manifest (hash Sha256) filled) bare_manifest (bare_new (bare ∷ bare ∷ [])) (manifest_same l.size hash digests filled e)) two_small two_fits e
+    (same_store (manifest (hash Sha256) filled) bare_manifest (bare_new (bare ∷ bare ∷ [])) (manifest_same a_new_store_has_one_length_in_its_place hash digests filled e))
+    two_small two_fits e
 
 -- ---- the two files
 
@@ -287,9 +328,12 @@ pub record IsSecond (hash : Alg → List ℕ → List ℕ) (said : Question → 
   pub read : IsFilePair hash said media other pair
   pub is : IsCollectedFile hash (defined second_label) pair parts place file
 
--- so such a file is built of them
-built_from : (hash : Alg → List ℕ → List ℕ) (said : Question → Verdict) (own other : List ℕ) (k : IsSecond hash said own other) → IsCollectedFrom hash said own other k.file
-built_from hash said own other k = record { definition = defined second_label; pair = k.pair; read = k.read; parts = parts; place = place; is = k.is }
+-- a file is built of two files that go together so
+built_from :
+    (hash : Alg → List ℕ → List ℕ) (said : Question → Verdict) (own other : List ℕ) (k : IsSecond hash said own other)
+    → IsCollectedFrom hash said own other k.file
+built_from hash said own other k =
+    record { definition = defined second_label; pair = k.pair; read = k.read; parts = parts; place = place; is = k.is }
 
 module _ (l : WorkedLaws) (hash : Alg → List ℕ → List ℕ) (said : Question → Verdict) (digests : GivesDigests hash) (filled : List ℕ)
     (s : IsSigned parts 64 filled) (k : IsFirst hash said filled) where
@@ -300,26 +344,31 @@ module _ (l : WorkedLaws) (hash : Alg → List ℕ → List ℕ) (said : Questio
   abbrev file : List ℕ
   file = first_file (hash Sha256) filled
 
-  -- what it is as the other file
+  -- what the first file is as the other file
   abbrev other : OtherFile
-  other = record { answer = store_answer hash said (length file) (place_start place) (first_len filled) k.reading; boxes = boxes_in t; readings = k.own ∷ [] }
+  other =
+      record
+      { answer = store_answer hash said (length file) (place_start place) (first_len filled) k.reading; boxes = boxes_in t; readings = k.own ∷ [] }
 
   -- no rule of it fails
   no_failing : first_failing (check_list hash said k.reading) ≡ None
   no_failing = none_fails (check_list hash said k.reading) k.accepted.valid
 
-  -- so it is valid
+  -- the other file is valid
   valid : IsValidAnswer other.answer
-  valid = (summary_of (length file) (place_start place) (first_len filled) k.reading, ap (answer_of (summary_of (length file) (place_start place) (first_len filled) k.reading)) no_failing)
+  valid =
+      (summary_of (length file) (place_start place) (first_len filled) k.reading, ap (answer_of (summary_of (length file) (place_start place) (first_len filled) k.reading)) no_failing)
 
-  -- its store can be joined
+  -- the store of the other file can be joined
   rooted : IsRootedStore hash (boxes_in t) (k.own ∷ []) (last_roots (k.own ∷ []))
   rooted = subst (λ (rs : List Reading). IsRootedStore hash (boxes_in t) rs (last_roots rs)) k.one
       (accepted_rooted l.rooted hash said file (place_start place) (first_len filled) t k.reading k.accepted).0
 
   -- with the JPEG file
   abbrev alone_pair : FilePair
-  alone_pair = record { media = record { boxes = none; readings = []; failing = None; base = media }; other = other; clash = None }
+  alone_pair =
+      record
+      { media = record { boxes = none; readings = []; failing = None; base = media }; other = other; clash = None }
 
   -- which is that
   alone_read : IsFilePair hash said media file alone_pair
@@ -329,7 +378,8 @@ module _ (l : WorkedLaws) (hash : Alg → List ℕ → List ℕ) (said : Questio
     is_media = refl;
     found = located.here (place_start place) (first_len filled) t;
     is_found = k.accepted.opened;
-    is_other = record { reading = k.reading; reads = k.accepted.reads; answer = refl; boxes = refl; readings = sym k.one };
+    is_other =
+        record { reading = k.reading; reads = k.accepted.reads; answer = refl; boxes = refl; readings = sym k.one };
     is_clash = alone_apart (supers_in (boxes_in t)) (is_reached []) (is_reached (k.own ∷ []));
   }
 
@@ -339,37 +389,47 @@ module _ (l : WorkedLaws) (hash : Alg → List ℕ → List ℕ) (said : Questio
     media = refl;
     other = valid;
     can = record {
-      joins = record { old_store = none_rooted hash; other_store = rooted; some = lit< tt; apart = alone_apart (supers_in (boxes_in t)) (is_reached []) (is_reached (k.own ∷ [])) };
+      joins =
+          record
+          { old_store = none_rooted hash; other_store = rooted; some = lit< tt; apart = alone_apart (supers_in (boxes_in t)) (is_reached []) (is_reached (k.own ∷ [])) };
       label = second_free k.own k.label;
       redactions = refl;
     };
   }
 
-  -- so a file is built
+  -- a file is built that collects the first file over no store
   pub alone_file : IsSecond hash said media file
   alone_file =
       let b = builds hash alone_pair (alone (hash Sha256) filled) filled refl alone_may
-      (record { can = alone_may.can; few = lit< tt; written = second_written; content = alone_collects (hash Sha256) filled k.own }) s
-      (alone_can l hash digests filled s.filled) in
+      (record { can = alone_may.can; few = lit< tt; written = second_written; content = alone_collects (hash Sha256) filled k.own })
+      s
+      (alone_can hash digests filled s.filled) in
       record { file = b.0; pair = alone_pair; read = alone_read; is = b.1 }
 
   -- with itself
   abbrev twice_pair : FilePair
-  twice_pair = record { media = record { boxes = boxes_in t; readings = k.own ∷ []; failing = first_failing (check_list hash said k.reading); base = media }; other = other; clash = None }
+  twice_pair =
+      record
+      { media = record { boxes = boxes_in t; readings = k.own ∷ []; failing = first_failing (check_list hash said k.reading); base = media }; other = other; clash = None }
 
   -- the first file less its range is the JPEG file
   left : IsLeft file (place_start place) (first_len filled) media
-  left = sym (l.stays (hash Sha256) first filled media (packets_bytes (tree_bytes t) 0x0211) place (λ text. (digests Sha256 text).sized) (can_put filled s.filled) refl)
+  left =
+      sym
+      (l.stays (hash Sha256) first filled media (packets_bytes (tree_bytes t) 0x0211) place (λ text. (digests Sha256 text).sized) (can_put filled s.filled) refl)
 
   -- which is that
   twice_read : IsFilePair hash said file file twice_pair
   twice_read = record {
     opened = located.here (place_start place) (first_len filled) t;
     is_opened = k.accepted.opened;
-    is_media = record { reading = k.reading; reads = k.accepted.reads; boxes = refl; readings = sym k.one; failing = refl; left = left };
+    is_media =
+        record
+        { reading = k.reading; reads = k.accepted.reads; boxes = refl; readings = sym k.one; failing = refl; left = left };
     found = located.here (place_start place) (first_len filled) t;
     is_found = k.accepted.opened;
-    is_other = record { reading = k.reading; reads = k.accepted.reads; answer = refl; boxes = refl; readings = sym k.one };
+    is_other =
+        record { reading = k.reading; reads = k.accepted.reads; answer = refl; boxes = refl; readings = sym k.one };
     is_clash = twice_apart (manifest (hash Sha256) filled) k.own;
   }
 
@@ -379,32 +439,38 @@ module _ (l : WorkedLaws) (hash : Alg → List ℕ → List ℕ) (said : Questio
     media = no_failing;
     other = valid;
     can = record {
-      joins = record { old_store = rooted; other_store = rooted; some = lit< tt; apart = twice_apart (manifest (hash Sha256) filled) k.own };
-      label = ap (λ (js : List Reading). has_manifest js second_label) (twice_readings k.own) ∙ second_free k.own k.label;
+      joins =
+          record
+          { old_store = rooted; other_store = rooted; some = lit< tt; apart = twice_apart (manifest (hash Sha256) filled) k.own };
+      label =
+          ap (λ (js : List Reading). has_manifest js second_label) (twice_readings k.own) ∙ second_free k.own k.label;
       redactions = refl;
     };
   }
 
-  -- so a file is built
+  -- a file is built that collects the first file over itself
   pub twice_file : IsSecond hash said file file
   twice_file =
       let few : length (collected_readings (k.own ∷ []) (k.own ∷ [])) < MAX_MANIFESTS =
       subst (λ (js : List Reading). length js < MAX_MANIFESTS) (sym (twice_readings k.own)) (lit< tt) in
       let b = builds hash twice_pair (twice (hash Sha256) filled) filled refl twice_may
-      (record { can = twice_may.can; few = few; written = second_written; content = twice_collects (hash Sha256) filled k.own }) s
-      (twice_can l hash digests filled s.filled) in
+      (record { can = twice_may.can; few = few; written = second_written; content = twice_collects (hash Sha256) filled k.own })
+      s
+      (twice_can hash digests filled s.filled) in
       record { file = b.0; pair = twice_pair; read = twice_read; is = b.1 }
 
--- so some file is built
-pub some_file : WorkedLaws → SomeFileIsCollected
-some_file l false hash said digests all =
-    let s = signed l.fills in
-    let k : IsFirst hash said s.0 = is_first l.meets l.asks hash said digests all s.0 s.1 in
-    let b = alone_file l hash said digests s.0 s.1 k in
+-- some file that collects is built
+pub some_file : SomeFileIsCollected
+some_file false hash said digests all =
+    let s = signed a_message_fills_its_reserve_or_needs_more in
+    let k : IsFirst hash said s.0 =
+    is_first a_file_built_in_its_place_meets_the_rules_fresh hash said digests all s.0 s.1 in
+    let b = alone_file worked_laws hash said digests s.0 s.1 k in
     (media, first_file (hash Sha256) s.0, b.file, is_absent, built_from hash said media (first_file (hash Sha256) s.0) b)
-some_file l true hash said digests all =
-    let s = signed l.fills in
-    let k : IsFirst hash said s.0 = is_first l.meets l.asks hash said digests all s.0 s.1 in
+some_file true hash said digests all =
+    let s = signed a_message_fills_its_reserve_or_needs_more in
+    let k : IsFirst hash said s.0 =
+    is_first a_file_built_in_its_place_meets_the_rules_fresh hash said digests all s.0 s.1 in
     let first : List ℕ = first_file (hash Sha256) s.0 in
-    let b = twice_file l hash said digests s.0 s.1 k in
+    let b = twice_file worked_laws hash said digests s.0 s.1 k in
     (first, first, b.file, (place_start place, first_len s.0, store (hash Sha256) s.0, k.accepted.opened), built_from hash said first first b)

@@ -10,11 +10,11 @@ use Rattle.c2_spec.specs.Jumbf.Tree.{AreDistinctLabels, AreLegalTrees, IsLegalTr
 use Rattle.c2_rules.specs.Chains.{label_in}
 use Rattle.c2_rules.specs.Readings.{AreReadings, IsReading, Reading}
 use Rattle.c2_chain_spec.specs.Joined.{has_manifest, picked}
-use Rattle.c2_new_store_spec.specs.Manifests.{is_super, manifest_of, supers_in}
-use Rattle.c2_new_store_spec.specs.Written.{IsStoreBox}
-use Rattle.c2_new_store_spec.proofs.Lists.{each-append}
-use Rattle.c2_parent_spec.proofs.Stores.{read_label}
+use Rattle.c2_new_file_spec.specs.Manifests.{is_super, manifest_of, supers_in}
+use Rattle.c2_new_file_spec.specs.Written.{IsStoreBox}
+use Rattle.c2_new_file_spec.proofs.Stores.{read_label}
 use Rattle.c2_collect_spec.specs.Sides.{boxes_then, has_same_label}
+use Rattle.c2_lemmas.proofs.Each.{each_append}
 
 -- ---- lists that correspond
 
@@ -33,14 +33,6 @@ zip_at R (x ∷ xs) [] i y h e = absurd h
 zip_at R (x ∷ xs) (z ∷ ys) zero y h e = record { it = x; is = refl; corresponds = subst (R x) (same_Some z y e) h.0 }
 zip_at R (x ∷ xs) (z ∷ ys) (suc i) y h e =
     let at = zip_at R xs ys i y h.1 e in record { it = at.it; is = at.is; corresponds = at.corresponds }
-
--- two lists behind two others
-pub zip_append : {A B : Type 0} (R : A → B → Type 0) (xs us : List A) (ys vs : List B) → AllZip R xs ys
-    → AllZip R us vs → AllZip R (xs ++ us) (ys ++ vs)
-zip_append R [] us [] vs h k = k
-zip_append R [] us (y ∷ ys) vs h k = absurd h
-zip_append R (x ∷ xs) us [] vs h k = absurd h
-zip_append R (x ∷ xs) us (y ∷ ys) vs h k = (h.0, zip_append R xs us ys vs h.1 k)
 
 -- what is picked of both corresponds, where the same places are
 pub zip_picked : {A B : Type 0} (R : A → B → Type 0) (p : ℕ → A → Bool) (q : ℕ → B → Bool) (k : ℕ) (xs : List A) (ys : List B)
@@ -70,7 +62,7 @@ all_picked {X} P p k (x ∷ xs) h = step (p k x) (all_picked P p (k + 1) xs h.1)
     step true rest = (h.0, rest)
     step false rest = rest
 
--- and what the test says of each
+-- what a test says of each that it picks holds of all that is picked
 pub picked_pass : {X : Type 0} (P : X → Type 0) (p : ℕ → X → Bool) (k : ℕ) (xs : List X)
     → ((i : ℕ) (x : X) → p i x ≡ true → P x) → AllByRecursion P (picked p k xs)
 picked_pass P p k [] h = tt
@@ -93,7 +85,7 @@ reads_zip [] (r ∷ rs) h k = absurd h
 reads_zip (t ∷ ts) [] h k = absurd h
 reads_zip (t ∷ ts) (r ∷ rs) h k = ((h.0, k.0), reads_zip ts rs h.1 k.1)
 
--- and the other way round
+-- trees one by one with their readings are read as these
 pub zip_reads : (ts : List Tree) (rs : List Reading) → AllZip Reads ts rs → AreReadings (map manifest_of ts) rs
 zip_reads [] [] h = tt
 zip_reads [] (r ∷ rs) h = absurd h
@@ -121,7 +113,7 @@ labels_of ts = map tree_label ts
 new_append : (o : Option (List ℕ)) (xs ys : List (Option (List ℕ))) → IsNewLabel o xs → IsNewLabel o ys
     → IsNewLabel o (xs ++ ys)
 new_append None xs ys h k = tt
-new_append (Some l) xs ys h k = each-append (λ p. p ≢ Some l) xs ys h k
+new_append (Some l) xs ys h k = each_append (λ p. p ≢ Some l) xs ys h k
 
 -- labels in a row differ
 distinct_append : (xs ys : List (Option (List ℕ))) → AreDistinctLabels xs → AreDistinctLabels ys
@@ -211,17 +203,18 @@ then_labels_none : (xs : List Tree) → tree_labels (boxes_then none xs) ≡ lab
 then_labels_none [] = refl
 then_labels_none (x ∷ xs) = ap (λ os. tree_label x ∷ os) (then_labels_none xs)
 
--- their labels
+-- the labels of boxes and then trees
 then_labels : (ts : Trees) (xs : List Tree) → tree_labels (boxes_then ts xs) ≡ tree_labels ts ++ labels_of xs
 then_labels none xs = then_labels_none xs
 then_labels (more t ts) xs = ap (λ os. tree_label t ∷ os) (then_labels ts xs)
 
--- so they differ
+-- the labels of boxes and then trees differ
 pub then_distinct : (ts : Trees) (xs : List Tree) → AreDistinctLabels (tree_labels ts)
     → AreDistinctLabels (labels_of xs) → AllByRecursion (IsFree ts) xs
     → AreDistinctLabels (tree_labels (boxes_then ts xs))
 then_distinct ts xs h k free =
-    subst AreDistinctLabels (sym (then_labels ts xs)) (distinct_append (tree_labels ts) (labels_of xs) h k (all_new ts xs free))
+    subst AreDistinctLabels (sym (then_labels ts xs))
+    (distinct_append (tree_labels ts) (labels_of xs) h k (all_new ts xs free))
 
 -- trees alone are legal
 then_legal_none : (depth : ℕ) (xs : List Tree) → AllByRecursion (IsLegalTree depth) xs
@@ -277,7 +270,7 @@ mutual
   higher depth most (super wide d us) le h =
       (omega (arith, le, h.0), h.1, h.2, higher_all (depth + 1) (most + 1) us (omega (arith, le)) h.3, h.4)
 
-  -- so are trees side by side
+  -- trees side by side that are legal are so higher up
   pub higher_all : (depth most : ℕ) (ts : Trees) → depth ≤ most → AreLegalTrees most ts → AreLegalTrees depth ts
   higher_all depth most none le h = tt
   higher_all depth most (more t ts) le h = (higher depth most t le h.0, higher_all depth most ts le h.1)

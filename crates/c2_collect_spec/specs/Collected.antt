@@ -20,12 +20,12 @@ use Rattle.c2_chain_spec.specs.Joined.{has_manifest, joined, joined_roots}
 use Rattle.c2_chain_spec.specs.Rooted.{is_reached_from, last_roots}
 use Rattle.c2_definition.specs.declared.types.Definition.{Definition}
 use Rattle.c2_definition.specs.declared.types.NewAssertion.{NewAssertion}
-use Rattle.c2_new_store_spec.specs.FreshBoxes.{contents_of}
-use Rattle.c2_new_store_spec.specs.Manifests.{is_signature_box, supers_in, supers_of}
-use Rattle.c2_new_store_spec.specs.Store.{Content, NamedManifest, NewIngredient, new_alg, new_claim, new_store}
-use Rattle.c2_new_store_spec.specs.Unbound.{IsKnownBinding, MeetsUnbound}
-use Rattle.c2_new_store_spec.specs.Written.{CanBeWritten}
-use Rattle.c2_parent_spec.specs.Redacting.{redacted_boxes}
+use Rattle.c2_new_file_spec.specs.FreshBoxes.{contents_of}
+use Rattle.c2_new_file_spec.specs.Manifests.{is_signature_box, supers_in, supers_of}
+use Rattle.c2_new_file_spec.specs.Store.{Content, NamedManifest, NewIngredient, new_alg, new_claim, new_store}
+use Rattle.c2_new_file_spec.specs.Unbound.{IsKnownBinding, MeetsUnbound}
+use Rattle.c2_new_file_spec.specs.Written.{CanBeWritten}
+use Rattle.c2_new_file_spec.specs.Redacting.{redacted_boxes}
 use Rattle.c2_new_content_spec.specs.Taken.{questions_from}
 use Rattle.c2_collect_spec.specs.Refusals.{redaction_refusal_by}
 use Rattle.c2_collect_spec.specs.Sides.{DoNotClash, joined_boxes}

@@ -5,10 +5,10 @@ use Rattle.c2_spec.specs.Jumbf.Tree.{Trees}
 use Rattle.c2_spec.specs.declared.digest.Alg.{Alg}
 use Rattle.c2_rules.specs.Readings.{Reading}
 use Rattle.c2_definition.specs.declared.types.Definition.{Definition}
-use Rattle.c2_new_store_spec.specs.Store.{Content}
+use Rattle.c2_new_file_spec.specs.Store.{Content}
 use Rattle.c2_new_content_spec.specs.Taken.{questions_from}
 use Rattle.c2_collect_spec.specs.Collected.{IsCollected, collected_readings, collected_roots}
-use Rattle.c2_new_split_spec.specs.Contents.{ContentMeets}
+use Rattle.c2_new_content_spec.specs.Contents.{ContentMeets}
 
 -- The new store that collects from two stores meets every rule but the verdict on its message and the one on its
 -- binding, and asks the new question and then those of the joined chain.

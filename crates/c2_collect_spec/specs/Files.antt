@@ -8,8 +8,8 @@ use Rattle.c2_rules.specs.Readings.{Reading}
 use Rattle.c2_rules.specs.CheckList.{StoreReading}
 use Rattle.c2_rules.specs.Validated.{IsFileReading}
 use Rattle.c2_definition.specs.declared.types.Definition.{Definition}
-use Rattle.c2_new_store_spec.specs.Fresh.{GivesDigests, Meets}
-use Rattle.c2_new_store_spec.specs.Store.{Content, new_alg, new_claim}
+use Rattle.c2_new_file_spec.specs.Fresh.{GivesDigests, MeetsTheRules}
+use Rattle.c2_new_file_spec.specs.Store.{Content, new_alg, new_claim}
 use Rattle.c2_new_content_spec.specs.Taken.{questions_from}
 use Rattle.c2_new_file_spec.specs.Places.{CanPut, Place, place_binding, place_file, place_question, place_start, place_store, put_bytes, range_len}
 use Rattle.c2_collect_spec.specs.Collected.{IsCollected, ReachesCollected, collected_readings, collected_roots}
@@ -29,7 +29,7 @@ CollectedFileMeets = (hash : Alg → List ℕ → List ℕ) (d : Definition) (ol
     → GivesDigests hash → IsCollected hash d old other old_rs other_rs c → CanPut c (length message) base p
     → SpellsMessage message parts
     → put_bytes p (tree_bytes (place_store (hash (new_alg c.definition)) c message base p)) ≡ Some bytes
-    → Meets hash (place_file base p bytes) (place_start p) (range_len p c (length message))
+    → MeetsTheRules hash (place_file base p bytes) (place_start p) (range_len p c (length message))
     (place_store (hash (new_alg c.definition)) c message base p)
     (place_question (hash (new_alg c.definition)) c (length message) base p parts
     ∷ questions_from (collected_readings old_rs other_rs) (collected_roots old_rs other_rs))

@@ -6,7 +6,7 @@ use Rattle.c2_spec.specs.declared.digest.Alg.{Alg}
 use Rattle.c2_spec.specs.declared.panel.Verdict.{Verdict}
 use Rattle.c2_definition.specs.DefinitionFile.{IsDefinition}
 use Rattle.c2_definition.specs.declared.types.Definition.{Definition}
-use Rattle.c2_new_store_spec.specs.Store.{Content}
+use Rattle.c2_new_file_spec.specs.Store.{Content}
 use Rattle.c2_new_lengths_spec.specs.Lengths.{IsShortOver}
 use Rattle.c2_new_file_spec.specs.Places.{Place, store_len}
 use Rattle.c2_collect_spec.specs.Collected.{CollectsFrom}
@@ -19,7 +19,8 @@ CollectedIsShort = (hash : Alg → List ℕ → List ℕ) (said : Question → V
     → IsFilePair hash said media other p → CollectsFrom d p.media.boxes p.other.boxes p.media.readings p.other.readings c
     → IsShortOver c
 
--- So the length of the new store, in each place, is below the greatest number that 64 bits hold, where a file is the definition.
+-- The length of a new store that collects from two files is, in each place, below the greatest number that 64 bits hold, where a file is
+-- the definition.
 abbrev pub CollectedStoresFit : Type 0
 CollectedStoresFit = (hash : Alg → List ℕ → List ℕ) (said : Question → Verdict) (media definition other : List ℕ) (d : Definition) (p : FilePair) (c : Content) (place : Place)
     → IsDefinition definition (Ok d) → IsFilePair hash said media other p

@@ -22,11 +22,11 @@ use Rattle.c2_definition.specs.declared.types.Definition.{Definition}
 use Rattle.c2_definition.specs.declared.types.DefinitionField.{DefinitionField}
 use Rattle.c2_new_signature.specs.Message.{IsAccepted, IsRefused}
 use Rattle.c2_new_signature.specs.declared.error.SignaturePart.{SignaturePart}
-use Rattle.c2_new_store_spec.specs.Fresh.{GivesDigests}
-use Rattle.c2_new_store_spec.specs.Store.{range_at}
-use Rattle.c2_new_store_spec.specs.Written.{HasTexts}
+use Rattle.c2_new_file_spec.specs.Fresh.{GivesDigests}
+use Rattle.c2_new_file_spec.specs.Store.{range_at}
+use Rattle.c2_new_file_spec.specs.Written.{HasTexts}
 use Rattle.c2_new_file_spec.specs.Places.{Place, place_start, range_len}
-use Rattle.c2_new_split_spec.specs.Kept.{KeepsBytes}
+use Rattle.c2_new_content_spec.specs.Kept.{KeepsBytes}
 use Rattle.c2_collect_spec.specs.Collected.{AreApproved}
 use Rattle.c2_collect_spec.specs.Order.{FilePair, HasStore, IsCollectedFile, IsFilePair, IsMediaFile, IsOtherFile, MediaFile, OtherFile}
 use Rattle.c2_collect_spec.specs.Order.{joined_refusals, other_refusals, parent_refusals, reserve_refusals}

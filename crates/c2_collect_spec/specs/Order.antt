@@ -34,12 +34,12 @@ use Rattle.c2_definition.specs.declared.types.DefinitionField.{DefinitionField}
 use Rattle.c2_new_signature.specs.Refusals.{reserve_needed}
 use Rattle.c2_new_signature.specs.Signed.{IsPaddable, IsSigned}
 use Rattle.c2_new_signature.specs.declared.error.SignaturePart.{SignaturePart}
-use Rattle.c2_new_store_spec.specs.Fresh.{GivesDigests}
-use Rattle.c2_new_store_spec.specs.Manifests.{supers_in}
-use Rattle.c2_new_store_spec.specs.Store.{Content, new_alg}
-use Rattle.c2_new_store_spec.specs.Written.{CanBeWritten}
-use Rattle.c2_parent_spec.specs.Redacting.{boxes_in}
-use Rattle.c2_parent_spec.specs.declared.refused.RefusedRedaction.{RefusedRedaction}
+use Rattle.c2_new_file_spec.specs.Fresh.{GivesDigests}
+use Rattle.c2_new_file_spec.specs.Manifests.{supers_in}
+use Rattle.c2_new_file_spec.specs.Store.{Content, new_alg}
+use Rattle.c2_new_file_spec.specs.Written.{CanBeWritten}
+use Rattle.c2_new_file_spec.specs.Redacting.{boxes_in}
+use Rattle.c2_new_file_spec.specs.declared.refused.RefusedRedaction.{RefusedRedaction}
 use Rattle.c2_new_file_spec.specs.Bases.{IsLeft}
 use Rattle.c2_new_file_spec.specs.Places.{CanPut, IsFreePlace, Place, in_boxes, in_segments, place_file, place_store, put_bytes, range_len, store_len}
 use Rattle.c2_collect_spec.specs.Collected.{CanCollect, CollectsFrom, IsCollected, collected_readings, collected_roots}
@@ -142,29 +142,29 @@ pub data CollectRefusal : Type 0 where
   store_too_large : ℕ → CollectRefusal
   reserve_too_small : ℕ → CollectRefusal
 
--- of all that is refused, in order, the first decides
+-- the refusal that decides: the first of all that are refused, in order
 abbrev pub first_refusal : List CollectRefusal → Option CollectRefusal
 first_refusal refusals = slice_get refusals 0
 
 -- ---- of both files
 
--- that the other file isn't valid
+-- what is refused of the other file: that it isn't valid
 abbrev pub other_refusals : Answer → List CollectRefusal
 other_refusals (answers.Valid summary) = []
 other_refusals (answers.Failing failing) = other_refused (answers.Failing failing) ∷ []
 other_refusals (answers.Refused reason number) = other_refused (answers.Refused reason number) ∷ []
 other_refusals answers.NoStore = other_refused answers.NoStore ∷ []
 
--- that one of these manifests has the label of a new one
+-- what is refused of a new label: that one of these manifests has it
 abbrev pub label_refusals : List ℕ → List Reading → List CollectRefusal
 label_refusals label rs = if has_manifest rs label then label_taken label ∷ [] else []
 
--- that a redaction of a definition can't be made, over what is reached from roots
+-- what is refused of a definition's redactions, over what is reached from roots: the first that can't be made
 abbrev pub redaction_refusals : Definition → List Reading → List ℕ → List CollectRefusal
 redaction_refusals d rs roots =
     option_to_list (option_map redaction_refused (redaction_refusal_by (is_reached_from rs roots) d.label rs d.redact))
 
--- that a rule fails of the media's store
+-- what is refused of the media's store: that a rule fails
 abbrev pub parent_refusals : MediaFile → List CollectRefusal
 parent_refusals m = option_to_list (option_map parent_fails m.failing)
 
@@ -181,17 +181,17 @@ pair_refusals d p = parent_refusals p.media ++ (other_refusals p.other.answer ++
 
 -- ---- of the new file
 
--- that nothing can be put in at a place
+-- what is refused of a place: that nothing can be put in there
 abbrev pub place_refusals : Place → List CollectRefusal
 place_refusals (in_segments segments number) = if is_none number then no_instance ∷ [] else []
 place_refusals (in_boxes roots) = option_to_list (option_map open_box (open_end (placed_from 0 roots)))
 
--- that a BMFF file has as many root boxes as it may have
+-- what is refused of root boxes: that a BMFF file has as many as it may have
 abbrev pub box_refusals : Place → List CollectRefusal
 box_refusals (in_segments segments number) = []
 box_refusals (in_boxes roots) = if nat_le MAX_ROOT_BOXES (length roots) then media_refused TooManyBoxes MAX_ROOT_BOXES ∷ [] else []
 
--- that so many manifests are too many for a store, so many bytes for a store, and so many for a file
+-- what is refused of sizes: so many manifests for a store, so many bytes for a store, and so many for a file
 abbrev pub size_refusals : ℕ → ℕ → ℕ → List CollectRefusal
 size_refusals manifests store file =
     (if nat_lt MAX_MANIFESTS manifests then too_many_manifests manifests ∷ [] else [])
@@ -205,7 +205,7 @@ file_refusals base c reserve manifests p =
     place_refusals p
     ++ (size_refusals manifests (store_len p c reserve) (length base + range_len p c reserve) ++ box_refusals p)
 
--- that a message with these parts needs more bytes than a definition reserves
+-- what is refused of a reserve: that a message with these parts needs more bytes than the definition reserves
 abbrev pub reserve_refusals : Definition → SignParts → List CollectRefusal
 reserve_refusals d parts = option_to_list (option_map reserve_too_small (reserve_needed d.reserve (length (bare_bytes parts))))
 

@@ -23,8 +23,8 @@ use Rattle.c2_definition.specs.declared.types.DefinitionField.{DefinitionField}
 use Rattle.c2_new_signature.specs.Message.{IsAccepted, IsRefused}
 use Rattle.c2_new_signature.specs.Signed.{IsSigned}
 use Rattle.c2_new_signature.specs.declared.error.SignaturePart.{SignaturePart}
-use Rattle.c2_new_store_spec.specs.Manifests.{supers_in}
-use Rattle.c2_new_store_spec.specs.Store.{Content, new_alg}
+use Rattle.c2_new_file_spec.specs.Manifests.{supers_in}
+use Rattle.c2_new_file_spec.specs.Store.{Content, new_alg}
 use Rattle.c2_new_file_spec.specs.Places.{IsPlace, Place, place_file, place_start, place_store, put_bytes, range_len}
 use Rattle.c2_collect_spec.specs.Collected.{CollectsFrom}
 use Rattle.c2_collect_spec.specs.Files.{collected_signed}

@@ -1,6 +1,6 @@
 -- Which redactions of a chain are refused, where these manifests of it are reached (C2PA Technical Specification 2.x, "Redaction of
 -- assertions"): what a redaction names must be there in a reached manifest, and each ingredient of a reached manifest that names that
--- one must name its signature. Seen from the last manifest of one store, a redaction is refused here exactly where `c2_parent_spec` refuses it
+-- one must name its signature. Seen from the last manifest of one store, a redaction is refused here exactly where `c2_new_file_spec` refuses it
 -- of that store.
 use Rattle.std.specs.Prelude.{◌≡◌, ◌<◌, ℕ, Bool, not, ◌&&◌, List, [], ◌∷◌, ◌++◌, length, take, slice_get, option_map}
 use Rattle.std.specs.declared.option.Option.{Option}
@@ -14,10 +14,10 @@ use Rattle.c2_rules.specs.Rules.{redaction_tests}
 use Rattle.c2_rules.specs.Tests.{Test, first_failing, test}
 use Rattle.c2_rules.specs.declared.answer.Failing.{Failing}
 use Rattle.c2_rules.specs.declared.code.Code.TheVariants.{ProfileRedactionTarget, ProfileIngredientSignature}
-use Rattle.c2_parent_spec.specs.Carrying.{RedactionsPass}
-use Rattle.c2_parent_spec.specs.Less.{CanRedactBy}
-use Rattle.c2_parent_spec.specs.Refusing.{is_target, names_unsigned, new_claim_uri, redaction_refusal, refused_by}
-use Rattle.c2_parent_spec.specs.declared.refused.RefusedRedaction.{RefusedRedaction}
+use Rattle.c2_new_file_spec.specs.Carrying.{RedactionsPass}
+use Rattle.c2_new_file_spec.specs.Less.{CanRedactBy}
+use Rattle.c2_new_file_spec.specs.Refusing.{is_target, names_unsigned, new_claim_uri, redaction_refusal, refused_by}
+use Rattle.c2_new_file_spec.specs.declared.refused.RefusedRedaction.{RefusedRedaction}
 
 -- a reached manifest of these passes a test
 abbrev pub any_reached_by : (ℕ → Bool) → (Reading → Bool) → List Reading → Bool

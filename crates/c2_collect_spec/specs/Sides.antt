@@ -8,7 +8,7 @@ use Rattle.std.specs.List.{list_any}
 use Rattle.c2_spec.specs.C2pa.Manifest.{is_given}
 use Rattle.c2_spec.specs.Jumbf.Tree.{Tree, Trees, more, none, tree_bytes, tree_label}
 use Rattle.c2_chain_spec.specs.Joined.{picked}
-use Rattle.c2_new_store_spec.specs.Manifests.{supers_in}
+use Rattle.c2_new_file_spec.specs.Manifests.{supers_in}
 
 -- ---- the joined boxes
 

@@ -17,9 +17,9 @@ use Rattle.c2_rules.specs.Validated.{IsFileReading}
 use Rattle.c2_chain_spec.specs.Joined.{has_manifest, joined, joined_roots}
 use Rattle.c2_chain_spec.specs.Rooted.{IsRooted, is_reached_from, last_roots}
 use Rattle.c2_definition.specs.declared.types.Definition.{Definition}
-use Rattle.c2_new_store_spec.specs.Manifests.{manifest_of, supers_in}
-use Rattle.c2_new_store_spec.specs.Written.{IsStoreBox}
-use Rattle.c2_parent_spec.specs.Redacting.{boxes_in, redacted_boxes}
+use Rattle.c2_new_file_spec.specs.Manifests.{manifest_of, supers_in}
+use Rattle.c2_new_file_spec.specs.Written.{IsStoreBox}
+use Rattle.c2_new_file_spec.specs.Redacting.{boxes_in, redacted_boxes}
 use Rattle.c2_new_content_spec.specs.Taken.{IsTakenFrom}
 use Rattle.c2_collect_spec.specs.Refusals.{redaction_refusal_by}
 use Rattle.c2_collect_spec.specs.Sides.{DoNotClash, joined_boxes}

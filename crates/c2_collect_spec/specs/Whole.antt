@@ -10,8 +10,8 @@ use Rattle.c2_spec.specs.declared.panel.Verdict.{Verdict}
 use Rattle.c2_rules.specs.CheckList.{StoreReading}
 use Rattle.c2_rules.specs.Validated.{IsFileReading}
 use Rattle.c2_definition.specs.declared.types.Definition.{Definition}
-use Rattle.c2_new_store_spec.specs.Fresh.{GivesDigests, Meets}
-use Rattle.c2_new_store_spec.specs.Store.{Content, new_alg}
+use Rattle.c2_new_file_spec.specs.Fresh.{GivesDigests, MeetsTheRules}
+use Rattle.c2_new_file_spec.specs.Store.{Content, new_alg}
 use Rattle.c2_new_content_spec.specs.Taken.{questions_from}
 use Rattle.c2_new_file_spec.specs.Places.{Place, place_start, place_store, range_len}
 use Rattle.c2_collect_spec.specs.Collected.{AreApproved, IsOfEither, ReachesCollected}
@@ -34,7 +34,7 @@ pub record MeetsCollected (hash : Alg → List ℕ → List ℕ) (d : Definition
   pub store : Tree
   pub is : store ≡ place_store (hash (new_alg d)) content message pair.media.base p
   pub question : Question
-  pub meets : Meets hash file (place_start p) len store (question ∷ pair_questions pair)
+  pub meets : MeetsTheRules hash file (place_start p) len store (question ∷ pair_questions pair)
   pub signed : question.tbs ≡ collected_signed hash d content pair.media.base p
   pub either : AllByRecursion (IsOfEither pair.media.readings pair.other.readings) (pair_questions pair)
   pub reaches : (s : StoreReading) → IsFileReading file store s → ReachesCollected pair.media.readings pair.other.readings s.readings

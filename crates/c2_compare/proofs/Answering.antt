@@ -11,18 +11,21 @@ use Rattle.c2_compare_spec.specs.Comparison.{IsComparison, IsRefusedFirst}
 use Rattle.c2_compare_spec.specs.declared.compared.Compared.{Compared}
 use Rattle.c2_compare_spec.specs.declared.compared.Compared.TheVariants as compared
 use Rattle.c2_compare_spec.specs.declared.compared.Side.TheVariants.{First, Second}
-use Rattle.c2_compare_spec.proofs.Unwritten.{prefix_none, then_nothing}
+use Rattle.c2_compare_spec.proofs.Unwritten.{prefix_none}
 use Rattle.c2_compare_evidence.specs.declared.error.CompareError.{CompareError}
 use Rattle.c2_compare_opened.specs.Comparing.{IsComparedAs}
 use Rattle.c2_compare.specs.Accepting.{IsUnaccepted, ended_as}
 use Rattle.c2_compare.specs.Comparing.{IsCompared}
 use Rattle.c2_compare.specs.declared.accepting.Unaccepted.{Unaccepted}
 use Rattle.c2_compare.specs.declared.accepting.Unaccepted.TheVariants.{Refused, Failed}
+use Rattle.c2_base.proofs.Written.{then_nothing}
 
 module _ (hash : Alg → List ℕ → List ℕ) (said : Question → Verdict) (first second : List ℕ) where
   -- two files come to one thing at most
   abbrev pub OneLaw : Type 0
-  OneLaw = (a b : Compared) (t u : List ℕ) → IsComparison hash said first second a t → IsComparison hash said first second b u → (a ≡ b) × (t ≡ u)
+  OneLaw =
+      (a b : Compared) (t u : List ℕ) → IsComparison hash said first second a t → IsComparison hash said first second b
+      u → (a ≡ b) × (t ≡ u)
 
   -- ---- files that aren't compared
 
@@ -32,33 +35,39 @@ module _ (hash : Alg → List ℕ → List ℕ) (said : Question → Verdict) (f
   refused_first a old is = ([], (is, refl), then_nothing old)
 
   -- the second isn't
-  refused_second : (s : StoreReading) → IsAccepted hash said first s → (a : Answer) (old : Option (List ℕ)) → IsRefusedFirst hash said second a
+  refused_second : (s : StoreReading) → IsAccepted hash said first s → (a : Answer) (old : Option (List ℕ))
+      → IsRefusedFirst hash said second a
       → IsComparedAs hash said first second old old (Ok (compared.NotAccepted Second a))
   refused_second s h a old is =
       ([], (record { store = s; accepted = h; is_answer = is.is_answer; invalid = is.invalid }, refl), then_nothing old)
 
   -- what the comparison ends with at the first
-  pub ended_first : (u : Unaccepted) (old : Option (List ℕ)) (r : Result Compared CompareError) → r ≡ ended_as First u → IsUnaccepted hash said first u
+  pub ended_first : (u : Unaccepted) (old : Option (List ℕ)) (r : Result Compared CompareError) → r ≡ ended_as First u
+      → IsUnaccepted hash said first u
       → IsComparedAs hash said first second old old r
   ended_first u old r same is = subst (IsComparedAs hash said first second old old) (sym same) (by u is)
     where
-      by : (u : Unaccepted) → IsUnaccepted hash said first u → IsComparedAs hash said first second old old (ended_as First u)
+      by : (u : Unaccepted) → IsUnaccepted hash said first u
+          → IsComparedAs hash said first second old old (ended_as First u)
       by (Refused a) is = refused_first a old is
       by (Failed e) is = inl refl
 
-  -- and at the second
-  pub ended_second : (s : StoreReading) → IsAccepted hash said first s → (u : Unaccepted) (old : Option (List ℕ)) (r : Result Compared CompareError) → r ≡ ended_as Second u
+  -- what the comparison ends with at a second file that isn't accepted
+  pub ended_second : (s : StoreReading) → IsAccepted hash said first s
+      → (u : Unaccepted) (old : Option (List ℕ)) (r : Result Compared CompareError) → r ≡ ended_as Second u
       → IsUnaccepted hash said second u → IsComparedAs hash said first second old old r
   ended_second s h u old r same is = subst (IsComparedAs hash said first second old old) (sym same) (by u is)
     where
-      by : (u : Unaccepted) → IsUnaccepted hash said second u → IsComparedAs hash said first second old old (ended_as Second u)
+      by : (u : Unaccepted) → IsUnaccepted hash said second u
+          → IsComparedAs hash said first second old old (ended_as Second u)
       by (Refused a) is = refused_second s h a old is
       by (Failed e) is = inl refl
 
   -- ---- what they come to, and nothing else
 
-  -- what was answered so is what they come to
-  pub compared_as : OneLaw → (old new : Option (List ℕ)) (r : Result Compared CompareError) → IsComparedAs hash said first second old new r
+  -- what is answered of two accepted files is their outcome
+  pub compared_as : OneLaw → (old new : Option (List ℕ)) (r : Result Compared CompareError)
+      → IsComparedAs hash said first second old new r
       → IsCompared hash said first second old new r
   compared_as law old new (Ok got) h = record {
     gives = λ what text is.

@@ -1,8 +1,12 @@
 -- A media file that is opened once: what its check answers and asks, and what of it is compared.
+use Rattle.c2_read_manifests.proofs.TheLaws.{one_reading_manifests}
+use Rattle.c2_opening.proofs.TheLaws.{one_media_read, one_opening_file}
+use Rattle.c2_validate.proofs.TheLaws.{one_check_answer}
+use Rattle.c2_compare_spec.proofs.TheLaws.{accepted_is_valid_accepted, accepted_is_valid_valid}
 use Rattle.std.proofs.Common.{◌≡◌, ℕ, false, List, [], Option, Some, Result, refl, sym, ap, ◌∙◌, subst}
 use Rattle.std.specs.Option.{option_map_or}
 use Rattle.c2_base.specs.declared.values.Question.{Question}
-use Rattle.c2_spec.specs.C2pa.Manifest.{Manifest, manifests_of}
+use Rattle.c2_spec.specs.C2pa.Manifest.{manifests_of}
 use Rattle.c2_spec.specs.Jumbf.Tree.{Tree}
 use Rattle.c2_spec.specs.Located.{Opening, refused, absent, here}
 use Rattle.c2_spec.specs.declared.assertion.FieldError.{FieldError}
@@ -10,7 +14,7 @@ use Rattle.c2_spec.specs.declared.digest.Alg.{Alg}
 use Rattle.c2_spec.specs.declared.panel.Verdict.{Verdict}
 use Rattle.c2_spec.specs.declared.reason.Reason.{Reason}
 use Rattle.c2_spec.specs.declared.store.ManifestBoxes.{ManifestBoxes}
-use Rattle.c2_rules.specs.Binding.{Binding, IsMedia, Media, binding_value}
+use Rattle.c2_rules.specs.Binding.{Binding, Media, binding_value}
 use Rattle.c2_rules.specs.CheckList.{HasBindingOf, StoreReading, active_in, check_asks}
 use Rattle.c2_rules.specs.Opened.{IsOpened}
 use Rattle.c2_rules.specs.Readings.{AreReadings, Reading}
@@ -21,8 +25,7 @@ use Rattle.c2_rules.specs.declared.answer.Failing.{Failing}
 use Rattle.c2_rules.specs.declared.answer.Summary.{Summary}
 use Rattle.c2_container.specs.Contained.{IsContainerOf}
 use Rattle.c2_container.specs.declared.types.Container.{Container}
-use Rattle.c2_opening.specs.Media.{IsMediaOf}
-use Rattle.c2_opening.specs.Opened.{IsFound, IsRead}
+use Rattle.c2_opening.specs.Opened.{IsFound, IsStoreRead}
 use Rattle.c2_opening.specs.declared.types.Media as types
 use Rattle.c2_opening.specs.declared.types.Opened.{Opened}
 use Rattle.c2_opening.specs.declared.types.Opened.TheVariants as opened
@@ -45,83 +48,85 @@ use Rattle.c2_compare.specs.declared.accepting.Unaccepted.TheVariants.{Refused, 
 
 -- the check of a file has one answer at most
 abbrev pub OneAnswer : Type 0
-OneAnswer = (hash : Alg → List ℕ → List ℕ) (said : Question → Verdict) (file : List ℕ) (a b : Answer) → IsAnswer hash said file a → IsAnswer hash said file b → a ≡ b
+OneAnswer =
+    (hash : Alg → List ℕ → List ℕ) (said : Question → Verdict) (file : List ℕ) (a b : Answer) → IsAnswer hash said file
+    a → IsAnswer hash said file b → a ≡ b
 
--- it asks what is asked over what the file is opened as
+-- the check of a file asks what is asked over what the file is opened as
 abbrev pub AsksLaw : Type 0
 AsksLaw =
-    (hash : Alg → List ℕ → List ℕ) (said : Question → Verdict) (file : List ℕ) (what : Opening Tree) (qs : List Question) → IsOpened file what → CheckAsks hash said file qs → OpenedAsks (check_asks hash said) what qs
-
--- a file is opened as one thing at most
-abbrev pub OneOpening : Type 0
-OneOpening = (file : List ℕ) (a b : Opening Tree) → IsOpened file a → IsOpened file b → a ≡ b
-
--- what is read of a store is one thing
-abbrev pub OneReading : Type 0
-OneReading = (ms : List Manifest) (rs ss : List Reading) → AreReadings ms rs → AreReadings ms ss → rs ≡ ss
-
--- a file is media with the container that was read of it
-abbrev pub OneMedia : Type 0
-OneMedia = (file : List ℕ) (c : Container) (m : Media) → IsContainerOf file c → IsMedia file m → IsMediaOf file c m
-
--- a valid file is accepted
-abbrev pub ValidLaw : Type 0
-ValidLaw =
-    (hash : Alg → List ℕ → List ℕ) (said : Question → Verdict) (file : List ℕ) (summary : Summary) → IsAnswer hash said file (answer.Valid summary) → (s : StoreReading) × (h : IsAccepted hash said file s) × (summary ≡ summary_in file s h.opened)
+    (hash : Alg → List ℕ → List ℕ) (said : Question → Verdict) (file : List ℕ) (what : Opening Tree)
+    (qs : List Question) → IsOpened file what → CheckAsks hash said file qs → OpenedAsks (check_asks hash said) what
+    qs
 
 -- an accepted file is valid
 abbrev pub AcceptedLaw : Type 0
-AcceptedLaw = (hash : Alg → List ℕ → List ℕ) (said : Question → Verdict) (file : List ℕ) (s : StoreReading) → (h : IsAccepted hash said file s) → IsAnswer hash said file (answer.Valid (summary_in file s h.opened))
+AcceptedLaw =
+    (hash : Alg → List ℕ → List ℕ) (said : Question → Verdict) (file : List ℕ) (s : StoreReading)
+    → (h : IsAccepted hash said file s) → IsAnswer hash said file (answer.Valid (summary_in file s h.opened))
 
 -- ---- a file that is opened as no store
 
--- it isn't valid
+-- a file that is opened as no store isn't valid
 storeless_invalid : (what : Opening Tree) (a : Answer) → IsStoreless what a → is_valid a ≡ false
 storeless_invalid (refused reason number) a h = ap is_valid h
 storeless_invalid absent a h = ap is_valid h
 storeless_invalid (here start len t) a h = absurd h
 
 -- this is its answer
-storeless_answer : (hash : Alg → List ℕ → List ℕ) (said : Question → Verdict) (file : List ℕ) (what : Opening Tree) (a : Answer) → IsStoreless what a → IsOpenedAnswer hash said file what a
+storeless_answer :
+    (hash : Alg → List ℕ → List ℕ) (said : Question → Verdict) (file : List ℕ) (what : Opening Tree) (a : Answer)
+    → IsStoreless what a → IsOpenedAnswer hash said file what a
 storeless_answer hash said file (refused reason number) a h = h
 storeless_answer hash said file absent a h = h
 storeless_answer hash said file (here start len t) a h = absurd h
 
 -- nothing is asked of it
-storeless_asks : (asks : List Reading → List Question) (what : Opening Tree) (a : Answer) (qs : List Question) → IsStoreless what a → OpenedAsks asks what qs → qs ≡ []
+storeless_asks : (asks : List Reading → List Question) (what : Opening Tree) (a : Answer) (qs : List Question)
+    → IsStoreless what a → OpenedAsks asks what qs → qs ≡ []
 storeless_asks asks (refused reason number) a qs h k = k
 storeless_asks asks absent a qs h k = k
 storeless_asks asks (here start len t) a qs h k = absurd h
 
--- so its check says that it isn't accepted
-pub unaccepted_unopened : (hash : Alg → List ℕ → List ℕ) (said : Question → Verdict) (file : List ℕ) (u : Unaccepted) → IsUnopened file u → IsUnaccepted hash said file u
+-- the check of a file that isn't opened says that it isn't accepted
+pub unaccepted_unopened : (hash : Alg → List ℕ → List ℕ) (said : Question → Verdict) (file : List ℕ) (u : Unaccepted)
+    → IsUnopened file u → IsUnaccepted hash said file u
 unaccepted_unopened hash said file (Refused a) h =
     record { is_answer = (h.0, h.1, storeless_answer hash said file h.0 a h.2); invalid = storeless_invalid h.0 a h.2 }
 unaccepted_unopened hash said file (Failed e) h = tt
 
--- and asks nothing
-pub asks_nobody : AsksLaw → (hash : Alg → List ℕ → List ℕ) (said : Question → Verdict) (file : List ℕ) (a : Answer) (qs : List Question) → IsUnopened file (Refused a) → CheckAsks hash said file qs → qs ≡ []
-asks_nobody law hash said file a qs h k = storeless_asks (check_asks hash said) h.0 a qs h.2 (law hash said file h.0 qs h.1 k)
+-- the check of a file that isn't opened asks nothing
+pub asks_nobody : AsksLaw
+    → (hash : Alg → List ℕ → List ℕ) (said : Question → Verdict) (file : List ℕ) (a : Answer) (qs : List Question)
+    → IsUnopened file (Refused a) → CheckAsks hash said file qs → qs ≡ []
+asks_nobody law hash said file a qs h k =
+    storeless_asks (check_asks hash said) h.0 a qs h.2 (law hash said file h.0 qs h.1 k)
 
 -- there is no store
-pub unopened_none : (file : List ℕ) (o : Opened) (c : Container) → o ≡ opened.NoStore c → IsFound file o → IsUnopened file (Refused answer.NoStore)
+pub unopened_none : (file : List ℕ) (o : Opened) (c : Container) → o ≡ opened.NoStore c → IsFound file o
+    → IsUnopened file (Refused answer.NoStore)
 unopened_none file o c is h = (absent, (absent, (subst (IsFound file) is h).located, refl), refl)
 
 -- the container is refused
-pub unopened_refused : (file : List ℕ) (o : Opened) (reason : Reason) (number : ℕ) → o ≡ opened.Refused reason number → IsFound file o → IsUnopened file (Refused (answer.Refused reason number))
-unopened_refused file o reason number is h = (refused reason number, (refused reason number, (subst (IsFound file) is h).located, refl), refl)
+pub unopened_refused : (file : List ℕ) (o : Opened) (reason : Reason) (number : ℕ) → o ≡ opened.Refused reason number
+    → IsFound file o → IsUnopened file (Refused (answer.Refused reason number))
+unopened_refused file o reason number is h =
+    (refused reason number, (refused reason number, (subst (IsFound file) is h).located, refl), refl)
 
 -- the store is refused
-pub unopened_read : (file : List ℕ) (m : types.Media) (r : StoreRead) (reason : Reason) (number : ℕ) → r ≡ read.Refused reason number → IsFound file (opened.Here m) → IsRead m.found r
+pub unopened_read : (file : List ℕ) (m : types.Media) (r : StoreRead) (reason : Reason) (number : ℕ)
+    → r ≡ read.Refused reason number → IsFound file (opened.Here m) → IsStoreRead m.found r
     → IsUnopened file (Refused (answer.Refused reason number))
 unopened_read file m r reason number is h k =
-    (refused reason number, (here m.found.start m.found.length m.found.store, h.located, (subst (IsRead m.found) is k).store), refl)
+    (refused reason number, (here m.found.start m.found.length m.found.store, h.located, (subst (IsStoreRead m.found) is k).store), refl)
 
 -- ---- a file that is opened as a store
 
 -- what was found and read of it is its store
-pub opened_from : (file : List ℕ) (m : types.Media) (t : Tree) (b : List ManifestBoxes) (o : OpenedStore) → IsFound file (opened.Here m) → IsRead m.found (read.Here t b)
-    → o.container.now ≡ m.container → o.range.start ≡ m.found.start → o.range.length ≡ m.found.length → AreReadings (manifests_of t) (readings_of o) → IsOpenedFrom file o
+pub opened_from : (file : List ℕ) (m : types.Media) (t : Tree) (b : List ManifestBoxes) (o : OpenedStore)
+    → IsFound file (opened.Here m) → IsStoreRead m.found (read.Here t b)
+    → o.container.now ≡ m.container → o.range.start ≡ m.found.start → o.range.length ≡ m.found.length
+    → AreReadings (manifests_of t) (readings_of o) → IsOpenedFrom file o
 opened_from file m t b o h k container start len reads = record {
   container = subst (IsContainerOf file) (sym container) h.container;
   tree = t;
@@ -131,37 +136,57 @@ opened_from file m t b o h k container start len reads = record {
 }
 
 -- a rule fails: it isn't accepted
-pub unaccepted_failing : (hash : Alg → List ℕ → List ℕ) (said : Question → Verdict) (file : List ℕ) (failing : Failing) → IsAnswered hash said file (answer.Failing failing) → IsUnaccepted hash said file (Refused (answer.Failing failing))
+pub unaccepted_failing : (hash : Alg → List ℕ → List ℕ) (said : Question → Verdict) (file : List ℕ) (failing : Failing)
+    → IsAnswered hash said file (answer.Failing failing)
+    → IsUnaccepted hash said file (Refused (answer.Failing failing))
 unaccepted_failing hash said file failing h = record { is_answer = h.is; invalid = refl }
 
 -- all rules hold: it can be compared
-pub side_of : OneOpening → OneReading → OneMedia → ValidLaw → (hash : Alg → List ℕ → List ℕ) (said : Question → Verdict) (file : List ℕ) (o : OpenedStore) (summary : Summary) (text : BoundText) → IsOpenedFrom file o
-    → IsAnswered hash said file (answer.Valid summary) → IsCheckedOver hash said o file (checked.Valid summary text) → IsCompareSide hash said file (readings_of o) text summary
-side_of one reading media valid hash said file o summary text from answered over =
-    let v = valid hash said file summary answered.is in
+pub side_of :
+    (hash : Alg → List ℕ → List ℕ) (said : Question → Verdict) (file : List ℕ) (o : OpenedStore) (summary : Summary)
+    (text : BoundText)
+    → IsOpenedFrom file o
+    → IsAnswered hash said file (answer.Valid summary) → IsCheckedOver hash said o file (checked.Valid summary text)
+    → IsCompareSide hash said file (readings_of o) text summary
+side_of hash said file o summary text from answered over =
+    let v = accepted_is_valid_valid hash said file summary answered.is in
     let s : StoreReading = v.0 in
     let p = v.1.opened in
-    let there : here p.start p.len p.tree ≡ here o.range.start o.range.length from.tree = one file (here p.start p.len p.tree) (here o.range.start o.range.length from.tree) p.is_opened from.opened in
+    let there : here p.start p.len p.tree ≡ here o.range.start o.range.length from.tree =
+    one_opening_file file (here p.start p.len p.tree) (here o.range.start o.range.length from.tree) p.is_opened
+    from.opened in
     let tree : p.tree ≡ from.tree = cc (there) in
     let r : IsFileReading file from.tree s = subst (λ (t : Tree). IsFileReading file t s) tree p.reads in
-    let same : s.readings ≡ readings_of o = reading (manifests_of from.tree) s.readings (readings_of o) r.reads.each from.reads in
-    let has : HasBindingOf r.media (active_in (readings_of o)) s.binding = subst (λ (x : List Reading). HasBindingOf r.media (active_in x) s.binding) same r.reads.binding in
-    let w = (over r.media (media file o.container.now r.media from.container r.is_media) s.binding has).text in
+    let same : s.readings ≡ readings_of o =
+    one_reading_manifests (manifests_of from.tree) s.readings (readings_of o) r.reads.each from.reads in
+    let has : HasBindingOf r.media (active_in (readings_of o)) s.binding =
+    subst (λ (x : List Reading). HasBindingOf r.media (active_in x) s.binding) same r.reads.binding in
+    let w = (over r.media (one_media_read file o.container.now r.media from.container r.is_media) s.binding has).text in
     record {
       store = s;
       accepted = v.1;
       readings = same;
-      is_text = w.4.text ∙ sym (ap (λ (x : Option (Result Binding FieldError)). option_map_or (λ (y : Binding). y.text) (binding_value x) []) w.3);
-      is_alg = w.4.alg ∙ sym (ap (λ (x : Option Reading). binding_alg x (binding_value s.binding)) (ap active_in same ∙ w.1) ∙ ap (λ (x : Option (Result Binding FieldError)). binding_alg (Some w.0) (binding_value x)) w.3);
+      is_text =
+          w.4.text
+          ∙ sym
+          (ap (λ (x : Option (Result Binding FieldError)). option_map_or (λ (y : Binding). y.text) (binding_value x) []) w.3);
+      is_alg =
+          w.4.alg
+          ∙ sym
+          (ap (λ (x : Option Reading). binding_alg x (binding_value s.binding)) (ap active_in same ∙ w.1) ∙ ap (λ (x : Option (Result Binding FieldError)). binding_alg (Some w.0) (binding_value x)) w.3);
       counted = v.2;
     }
 
 -- ---- one answer
 
 -- a file that is accepted isn't refused
-pub not_refused : {P : Type 0} → OneAnswer → AcceptedLaw → (hash : Alg → List ℕ → List ℕ) (said : Question → Verdict) (file : List ℕ) (s : StoreReading) → IsAccepted hash said file s
+pub not_refused : {P : Type 0}
+    → (hash : Alg → List ℕ → List ℕ) (said : Question → Verdict) (file : List ℕ) (s : StoreReading)
+    → IsAccepted hash said file s
     → (a : Answer) → IsRefusedFirst hash said file a → P
-not_refused one accepted hash said file s h a r =
-    let same = one hash said file a (answer.Valid (summary_in file s h.opened)) r.is_answer (accepted hash said file s h) in
+not_refused hash said file s h a r =
+    let same =
+    one_check_answer hash said file a (answer.Valid (summary_in file s h.opened)) r.is_answer
+    (accepted_is_valid_accepted hash said file s h) in
     let bad = sym (ap is_valid same) ∙ r.invalid in
     absurd (cc (bad))

@@ -20,7 +20,7 @@ use Rattle.c2_compare_spec.specs.Comparison.{IsRefusedFirst}
 use Rattle.c2_compare_spec.specs.declared.compared.Compared.{Compared}
 use Rattle.c2_compare_spec.specs.declared.compared.Compared.TheVariants.{NotAccepted}
 use Rattle.c2_compare_spec.specs.declared.compared.Side.{Side}
-use Rattle.c2_compare_evidence.specs.Causes.{IsReadCause, IsWriteCause}
+use Rattle.c2_compare_evidence.specs.Causes.{IsReadCauseBeside, IsReportCause}
 use Rattle.c2_compare_evidence.specs.declared.error.CompareError.{CompareError}
 use Rattle.c2_compare_evidence.specs.declared.error.CompareError.TheVariants.{ReadFault, JudgeFault, NoMemory}
 use Rattle.c2_validate.specs.Checked.{validate_heard}
@@ -89,8 +89,8 @@ pub record LeavesFiles {A B W T : Type 0} (len : A → ℕ) (known : A → Optio
     (other_len : B → ℕ) (other_known : B → Option (List ℕ)) (other_faults : B → ℕ)
     (written : W → Option (List ℕ)) (finished : W → Bool) (write_faults : W → ℕ)
     (a a' : A) (b b' : B) (w w' : W) (result : Result T CompareError) : Type 0 where
-  pub first : ReadsSource len known faults (IsReadCause (other_faults b) (other_faults b')) a a' result
-  pub second : ReadsSource other_len other_known other_faults (IsReadCause (faults a) (faults a')) b b'
+  pub first : ReadsSource len known faults (IsReadCauseBeside (other_faults b) (other_faults b')) a a' result
+  pub second : ReadsSource other_len other_known other_faults (IsReadCauseBeside (faults a) (faults a')) b b'
       result
-  pub report : WritesSink written finished write_faults IsWriteCause w w' result
+  pub report : WritesSink written finished write_faults IsReportCause w w' result
   pub judged : IfErr result (λ e. e ≡ JudgeFault → w' ≡ w)

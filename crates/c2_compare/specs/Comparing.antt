@@ -16,7 +16,8 @@ use Rattle.c2_compare_evidence.specs.declared.error.CompareError.TheVariants.{Re
 
 -- ---- what two files come to
 
--- by the answer: what the two files come to was answered and its text written; or a prefix of the text was
+-- What a comparison gives by its answer: the outcome of the two files was answered and its text written; or a prefix of the text was
+-- written.
 abbrev pub Gives : Compared → List ℕ → Option (List ℕ) → Option (List ℕ)
     → Result Compared CompareError → Type 0
 Gives what text old new (Ok got) = (got ≡ what) × Appends old new text

@@ -5,23 +5,22 @@ ghost use Rattle.c2_base.specs.Source.{ReadsSource};
 ghost use Rattle.c2_spec.specs.Judges.Panel.{panel_says};
 ghost use Rattle.c2_rules.specs.Asking.{HearsPanel};
 ghost use Rattle.c2_container.specs.Contained.{HasRootsInside};
-ghost use Rattle.c2_opening.specs.Opened.{IsCause, IsFound, IsRead};
+ghost use Rattle.c2_opening.specs.Opened.{IsOpeningCause, IsFound, IsStoreRead};
 ghost use Rattle.c2_opening.specs.declared.types.Opened.TheVariants as opened;
 ghost use Rattle.c2_opening.specs.declared.types.StoreRead.TheVariants as store_read;
-ghost use Rattle.c2_validate.specs.Checked.{IsOpenedFrom, IsReadCause, readings_of};
+ghost use Rattle.c2_validate.specs.Checked.{IsOpenedFrom, IsCheckReadCause, readings_of};
 ghost use Rattle.c2_compare_opened.specs.Sides.{IsCompareSide};
 ghost use Rattle.c2_compare.specs.Accepting.{AsksChecked, IsEnded, IsUnaccepted, IsUnopened, IsUnread, ended_as, ended_heard, fault_of};
 
 use c2_base::{NoMemory, Source};
-use c2_chain::one_reading;
 use c2_compare_evidence::CompareError;
-use c2_compare_spec::{Compared, Side, accepted_is_valid};
+use c2_compare_spec::{Compared, Side};
 use c2_hard_binding::BoundText;
 use c2_hash::Hashing;
 use c2_judge::Judge;
 use c2_jumbf::Tree;
 use c2_opening::types::{Media, Opened, StoreRead};
-use c2_opening::{ValidateError, find_store, one_media, one_opening, read_store};
+use c2_opening::{ValidateError, find_store, read_store};
 use c2_rules::{Answer, Summary};
 use c2_store::Store;
 use c2_validate::{Checked, OpenedStore, a_store_answers_for_its_file, check};
@@ -30,10 +29,10 @@ use std::alloc::Global;
 /// Why a file isn't compared.
 #[derive(Drop)]
 pub enum Unaccepted {
-    /// Its check answers this, by which it isn't accepted.
+    /// The check of the file answers this, by which it isn't accepted.
     Refused(Answer),
 
-    /// Its check has no answer.
+    /// The check of the file has no answer.
     Failed(ValidateError),
 }
 
@@ -76,7 +75,8 @@ pub fn find<S: Source>(alloc: Global, source: &mut S) -> Result<Media, Unaccepte
         (λ file. IfOk result (λ media. IsFound file (opened.Here media))) }
     ensures refused { ForSome (S.known source.old) (λ file. IfErr result (IsUnopened file)) }
     ensures inside { IfOk result (λ media. HasRootsInside (S.len source.old) media.container) }
-    ensures reads { ReadsSource S.len S.known S.faults (IsEnded IsCause) source.old source.new
+    ensures reads { ReadsSource S.len S.known S.faults (IsEnded IsOpeningCause)
+        source.old source.new
         result }
 {
     // Matched and not handed up by `?`, here and below: each way out has clauses of its own.
@@ -95,7 +95,7 @@ pub fn find<S: Source>(alloc: Global, source: &mut S) -> Result<Media, Unaccepte
 
 /// The box tree of a file's store, and the boxes of its manifests.
 pub fn read<'t>(alloc: Global, media: &'t Media) -> Result<(Tree<'t>, Store), Unaccepted>
-    ensures read { IfOk result (λ x. IsRead media.now.found (store_read.Here x.0 x.1)) }
+    ensures read { IfOk result (λ x. IsStoreRead media.now.found (store_read.Here x.0 x.1)) }
     ensures refused { (file : List ℕ) → IsFound file (opened.Here media.now)
         → IfErr result (IsUnopened file) }
     ensures errors { IfErr result IsUnread }
@@ -130,17 +130,13 @@ pub fn accept<S: Source, H: Hashing>(
         ForSome (S.known source.old)
         (λ file. IfErr result (IsUnaccepted H.digest_of said file)) }
     ensures size { IfOk result (λ found. found.text.cover.size ≡ S.len source.old) }
-    ensures reads { ReadsSource S.len S.known S.faults (IsEnded IsReadCause) source.old source.new
+    ensures reads { ReadsSource S.len S.known S.faults (IsEnded IsCheckReadCause)
+        source.old source.new
         result }
     ensures panel { HearsPanel says asked_times judge_faults ended_heard
         (AsksChecked H.digest_of (S.known source.old)) judges.old judges.new result }
 {
-    // Only the prover needs these laws.
     a_store_answers_for_its_file();
-    accepted_is_valid();
-    one_media();
-    one_opening();
-    one_reading();
     let checked = match check(alloc, hashing, source, store, judges) {
         Ok(checked) => checked,
         Err(error) => return Err(Unaccepted::Failed(error)),

@@ -9,7 +9,7 @@ ghost use Rattle.c2_container.specs.Contained.{HasRootsInside};
 ghost use Rattle.c2_opening.specs.Opened.{IsFound};
 ghost use Rattle.c2_opening.specs.declared.types.Opened.TheVariants as opened;
 ghost use Rattle.c2_validate.specs.Checked.{IsOpenedFrom};
-ghost use Rattle.c2_compare_evidence.specs.Causes.{IsReadCause, IsWriteCause};
+ghost use Rattle.c2_compare_evidence.specs.Causes.{IsReadCauseBeside, IsReportCause};
 ghost use Rattle.c2_compare_opened.specs.Comparing.{IsComparedAs};
 ghost use Rattle.c2_compare_opened.specs.Sides.{IsSided};
 ghost use Rattle.c2_compare.specs.Accepting.{AsksChecked, LeavesFiles};
@@ -20,12 +20,11 @@ use c2_base::{NoMemory, Range, Sink, Source};
 use c2_chain::{Chain, of_store, readings};
 use c2_compare_evidence::CompareError;
 use c2_compare_opened::{Sided, compare_stores};
-use c2_compare_spec::{Compared, Side, accepted_is_valid, one_comparison};
+use c2_compare_spec::{Compared, Side};
 use c2_hash::Hashing;
 use c2_judge::Judge;
-use c2_opening::one_opening;
 use c2_opening::types::Media;
-use c2_validate::{OpenedStore, a_file_answers_by_what_it_is_opened_as, one_check};
+use c2_validate::OpenedStore;
 use std::alloc::Global;
 
 /// What files are checked with.
@@ -90,19 +89,16 @@ pub fn compare<A: Source, B: Source, H: Hashing, W: Sink>(
 
     // These hold of every source and every report; just the questions of the comparison are asked where the bytes are known.
     ensures first { ReadsSource A.len A.known A.faults
-        (IsReadCause (B.faults second.old) (B.faults second.new)) first.old first.new result }
+        (IsReadCauseBeside (B.faults second.old) (B.faults second.new)) first.old first.new result }
     ensures second { ReadsSource B.len B.known B.faults
-        (IsReadCause (A.faults first.old) (A.faults first.new)) second.old second.new result }
-    ensures report { WritesSink W.written W.finished W.faults IsWriteCause report.old report.new
+        (IsReadCauseBeside (A.faults first.old) (A.faults first.new)) second.old second.new result }
+    ensures report { WritesSink W.written W.finished W.faults IsReportCause report.old report.new
         result }
     ensures panel { HearsPanel says asked_times judge_faults compare_heard
         (AsksCompared H.digest_of (A.known first.old) (B.known second.old))
         judges.old judges.new result }
     ensures judged { IfErr result (λ e. e ≡ CompareError.JudgeFault → report.new ≡ report.old) }
 {
-    // Only the prover needs these laws.
-    one_comparison();
-    one_opening();
     let checker = Checker { alloc, hashing };
     checker.find_first(first, second, judges, report)
 }
@@ -133,9 +129,6 @@ impl<'h, H: Hashing> Checker<'h, H> {
             (AsksCompared H.digest_of (A.known first.old) (B.known second.old))
             judges.old judges.new result }
     {
-        // Only the prover needs these laws.
-        a_file_answers_by_what_it_is_opened_as();
-        one_check();
         match find(self.alloc, first) {
             Ok(one) => self.read_first(first, &one, second, judges, report),
             Err(unaccepted) => unaccepted.end(Side::First),
@@ -168,9 +161,6 @@ impl<'h, H: Hashing> Checker<'h, H> {
             (AsksCompared H.digest_of (A.known first.old) (B.known second.old))
             judges.old judges.new result }
     {
-        // Only the prover needs these laws.
-        a_file_answers_by_what_it_is_opened_as();
-        one_check();
         let (tree, store) = match read(self.alloc, one) {
             Ok(read) => read,
             Err(unaccepted) => return unaccepted.end(Side::First),
@@ -208,9 +198,6 @@ impl<'h, H: Hashing> Checker<'h, H> {
             (AsksCompared H.digest_of (A.known first.old) (B.known second.old))
             judges.old judges.new result }
     {
-        // Only the prover needs these laws.
-        accepted_is_valid();
-        one_check();
         let found = match accept(self.alloc, self.hashing, first, one, judges) {
             Ok(found) => found,
             Err(unaccepted) => return unaccepted.end(Side::First),
@@ -250,8 +237,6 @@ impl<'h, 's, 't, H: Hashing> Beside<'h, 's, 't, H> {
         ensures panel { HearsPanel says asked_times judge_faults compare_heard
             (AsksChecked H.digest_of (B.known second.old)) judges.old judges.new result }
     {
-        // Only the prover needs this law.
-        a_file_answers_by_what_it_is_opened_as();
         match find(self.alloc, second) {
             Ok(two) => self.read_second(first, second, &two, judges, report),
             Err(unaccepted) => unaccepted.end(Side::Second),
@@ -282,8 +267,6 @@ impl<'h, 's, 't, H: Hashing> Beside<'h, 's, 't, H> {
         ensures panel { HearsPanel says asked_times judge_faults compare_heard
             (AsksChecked H.digest_of (B.known second.old)) judges.old judges.new result }
     {
-        // Only the prover needs this law.
-        a_file_answers_by_what_it_is_opened_as();
         let (tree, store) = match read(self.alloc, two) {
             Ok(read) => read,
             Err(unaccepted) => return unaccepted.end(Side::Second),

@@ -3,7 +3,6 @@ use Rattle.std.proofs.Common.{◌≡◌, ◌⊎◌, inl, inr, ℕ, zero, suc, �
 use Rattle.std.specs.List.{find, position, position_or_len}
 use Rattle.std.specs.Option.{option_map, option_and_then}
 use Rattle.std.proofs.lemmas.Bool.{cases_lt}
-use Rattle.std.proofs.lemmas.Bool.Decides.{Decides-ltb}
 use Rattle.std.proofs.lemmas.List.Folds.{find_at}
 use Rattle.std.proofs.lemmas.List.{length-map}
 use Rattle.std.proofs.lemmas.Option.{slice_get_past, slice_get-get_or, slice_get-map}
@@ -13,26 +12,8 @@ use Rattle.c2_rules.specs.Readings.{Reading}
 use Rattle.c2_compare_spec.specs.Differences.{other_named}
 use Rattle.c2_compare_content.specs.Targets.{before, other_place, equality_of, equalities}
 use Rattle.c2_compare_content.specs.declared.targets.Equality.{Equality}
-
--- a test of numbers that holds, and one that doesn't
-test_yes : (a b : ℕ) → a < b → ltb a b ≡ true
-test_yes a b lt = (Decides-ltb a b).1 lt
-
--- the other way round
-test_no : (a b : ℕ) → b ≤ a → ltb a b ≡ false
-test_no a b le = by (ltb a b) refl
-  where
-    by : (t : Bool) → ltb a b ≡ t → ltb a b ≡ false
-    by false e = e
-    by true e = let lt = (Decides-ltb a b).0 e in absurd (omega (arith, lt, le))
-
--- what stands in the front of a list stands there in the list
-front_at : {X : Type 0} (xs : List X) (n j : ℕ) → j < n → slice_get (take n xs) j ≡ slice_get xs j
-front_at [] zero j lt = refl
-front_at [] (suc n) j lt = refl
-front_at (y ∷ ys) zero j lt = absurd (omega (arith, lt))
-front_at (y ∷ ys) (suc n) zero lt = refl
-front_at (y ∷ ys) (suc n) (suc j) lt = front_at ys n j (omega (arith, lt))
+use Rattle.c2_lemmas.proofs.Lists.{get_in_front}
+use Rattle.c2_lemmas.proofs.Numbers.{ltb_less, ltb_not_less}
 
 -- the length of the front of a list
 front_len : {X : Type 0} (xs : List X) (n : ℕ) → (length (take n xs) ≤ n) × (length (take n xs) ≤ length xs)
@@ -56,7 +37,8 @@ module _ {X : Type 0} (d : X → Bool) where
       by false e = ap (λ k. 1 + k) e ∙ omega arith
 
   -- the first that passes in the front of a list is at the first place of all, where that is in the front
-  found_front : (xs : List X) (n : ℕ) → option_and_then (slice_get xs) (before (n + 1) (position d xs)) ≡ find d (take n xs)
+  found_front : (xs : List X) (n : ℕ)
+      → option_and_then (slice_get xs) (before (n + 1) (position d xs)) ≡ find d (take n xs)
   found_front xs n =
       by (cases_lt (position_or_len d xs) (length xs)) (cases_lt (position_or_len d xs) n)
       ∙ sym (find_at d (take n xs) ∙ ap (slice_get (take n xs)) (front_place xs n))
@@ -71,17 +53,20 @@ module _ {X : Type 0} (d : X → Bool) where
           → option_and_then (slice_get xs) (before (n + 1) (cond (ltb q (length xs)) (Some q) None)) ≡ slice_get (take n xs) (min n q)
       by (inl lt) (inl small) =
           let m : min n q ≡ q = omega (arith, small) in
-          ap (λ b. option_and_then (slice_get xs) (before (n + 1) (cond b (Some q) None))) (test_yes q (length xs) lt)
-          ∙ ap (λ b. option_and_then (slice_get xs) (cond b (Some q) None)) (test_yes (q + 1) (n + 1) (omega (arith, small)))
-          ∙ sym (front_at xs n q small) ∙ ap (slice_get (take n xs)) (sym m)
+          ap (λ b. option_and_then (slice_get xs) (before (n + 1) (cond b (Some q) None))) (ltb_less q (length xs) lt)
+          ∙ ap (λ b. option_and_then (slice_get xs) (cond b (Some q) None))
+          (ltb_less (q + 1) (n + 1) (omega (arith, small)))
+          ∙ sym (get_in_front xs n q small) ∙ ap (slice_get (take n xs)) (sym m)
       by (inl lt) (inr large) =
           let past : length (take n xs) ≤ min n q = omega (arith, large, lens) in
-          ap (λ b. option_and_then (slice_get xs) (before (n + 1) (cond b (Some q) None))) (test_yes q (length xs) lt)
-          ∙ ap (λ b. option_and_then (slice_get xs) (cond b (Some q) None)) (test_no (q + 1) (n + 1) (omega (arith, large)))
+          ap (λ b. option_and_then (slice_get xs) (before (n + 1) (cond b (Some q) None))) (ltb_less q (length xs) lt)
+          ∙ ap (λ b. option_and_then (slice_get xs) (cond b (Some q) None))
+          (ltb_not_less (q + 1) (n + 1) (omega (arith, large)))
           ∙ sym (slice_get_past (take n xs) (min n q) past)
       by (inr le) other =
           let past : length (take n xs) ≤ min n q = omega (arith, le, lens) in
-          ap (λ b. option_and_then (slice_get xs) (before (n + 1) (cond b (Some q) None))) (test_no q (length xs) le)
+          ap (λ b. option_and_then (slice_get xs) (before (n + 1) (cond b (Some q) None)))
+          (ltb_not_less q (length xs) le)
           ∙ sym (slice_get_past (take n xs) (min n q) past)
 
   -- what is found passes
@@ -130,7 +115,8 @@ target_known rs ss label m e at known = by (slice_get rs m) refl
         sym known ∙ slice_get-map (λ (r : Reading). equality_of (Some r) (other_named ss (label_in r))) rs m
         ∙ ap (option_map (λ (r : Reading). equality_of (Some r) (other_named ss (label_in r)))) is in
         let same : e ≡ equality_of (Some r) (other_named ss (label_in r)) = cc (value) in
-        same ∙ ap (λ l. equality_of (Some r) (other_named ss l)) name ∙ ap (λ o. equality_of o (other_named ss label)) (sym found)
+        same ∙ ap (λ l. equality_of (Some r) (other_named ss l)) name
+        ∙ ap (λ o. equality_of o (other_named ss label)) (sym found)
 
 -- the manifest at the place that a test found
 pub other_found : (rs : List Reading) (label : List ℕ) (o : Option ℕ) (x : Option Reading) → o ≡ other_place rs label
@@ -138,15 +124,18 @@ pub other_found : (rs : List Reading) (label : List ℕ) (o : Option ℕ) (x : O
 other_found rs label o x at is = is ∙ ap (option_and_then (slice_get rs)) at ∙ other_is rs label
 
 -- there is none
-pub target_missing : (rs ss : List Reading) (label : List ℕ) (e : Equality) (x : Option Reading) → None ≡ other_place rs label → e ≡ equality_of None x
+pub target_missing : (rs ss : List Reading) (label : List ℕ) (e : Equality) (x : Option Reading)
+    → None ≡ other_place rs label → e ≡ equality_of None x
     → x ≡ other_named ss label → e ≡ equality_of (other_named rs label) (other_named ss label)
 target_missing rs ss label e x none is other =
     let no_one : None ≡ other_named rs label = ap (option_and_then (slice_get rs)) none ∙ other_is rs label in
     is ∙ ap (equality_of None) other ∙ ap (λ o. equality_of o (other_named ss label)) no_one
 
 -- what was found out of as many manifests is there at the place of one
-pub known_at : (rs ss : List Reading) (known : List Equality) (m : ℕ) (d : Equality) → known ≡ equalities rs ss → m < length rs
+pub known_at : (rs ss : List Reading) (known : List Equality) (m : ℕ) (d : Equality) → known ≡ equalities rs ss
+    → m < length rs
     → slice_get (equalities rs ss) m ≡ Some (get_or known m d)
 known_at rs ss known m d same lt =
-    let len : length (equalities rs ss) ≡ length rs = length-map rs (λ (r : Reading). equality_of (Some r) (other_named ss (label_in r))) in
+    let len : length (equalities rs ss) ≡ length rs =
+    length-map rs (λ (r : Reading). equality_of (Some r) (other_named ss (label_in r))) in
     slice_get-get_or (equalities rs ss) m d (omega (arith, len, lt)) ∙ ap (λ xs. Some (get_or xs m d)) (sym same)

@@ -22,6 +22,6 @@ equality_of target other = record {
   contents = bytes_eq (whole_contents target) (whole_contents other);
 }
 
--- of each manifest of the first store and the one of the second with its label
+-- which lists are equal of each manifest of the first store and the one of the second with its label
 abbrev pub equalities : List Reading → List Reading → List Equality
 equalities rs ss = map (λ (r : Reading). equality_of (Some r) (other_named ss (label_in r))) rs

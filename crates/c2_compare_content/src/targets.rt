@@ -6,7 +6,7 @@ ghost use Rattle.c2_compare_content.specs.Targets.{equalities, equality_of, othe
 
 use c2_base::NoMemory;
 use c2_read_manifests::{
-    Kept, ReadManifests, claim_bytes as own_claim_bytes, label, manifests, place_of,
+    ReadManifest, ReadManifests, claim_bytes as own_claim_bytes, label, manifests, place_of,
 };
 use std::alloc::Global;
 
@@ -19,7 +19,7 @@ pub struct Equality {
 }
 
 /// The manifest at a place.
-pub fn manifest_at<'a, 't>(all: &'a ReadManifests<'t>, n: usize) -> &'a Kept<'t>
+pub fn manifest_at<'a, 't>(all: &'a ReadManifests<'t>, n: usize) -> &'a ReadManifest<'t>
     requires { n < length all.now }
     ensures { slice_get all.now n ≡ Some result.now }
 {
@@ -27,7 +27,7 @@ pub fn manifest_at<'a, 't>(all: &'a ReadManifests<'t>, n: usize) -> &'a Kept<'t>
 }
 
 /// The bytes of the claim of a manifest that may be missing; none where there is none.
-pub fn claim_bytes<'a>(own: Option<&'a Kept<'_>>) -> &'a [u8]
+pub fn claim_bytes<'a>(own: Option<&'a ReadManifest<'_>>) -> &'a [u8]
     ensures { result.now ≡ form.claim_list (option_map (λ k. k.now) own.entry) }
 {
     match own {
@@ -40,7 +40,7 @@ pub fn claim_bytes<'a>(own: Option<&'a Kept<'_>>) -> &'a [u8]
 }
 
 /// The contents of the signature box of a manifest that may be missing; none where there is no box.
-pub fn signature_contents<'a>(own: Option<&'a Kept<'_>>) -> &'a [u8]
+pub fn signature_contents<'a>(own: Option<&'a ReadManifest<'_>>) -> &'a [u8]
     ensures { result.now ≡ (form.signature_box (option_map (λ k. k.now) own.entry)).contents }
 {
     match own {
@@ -53,7 +53,7 @@ pub fn signature_contents<'a>(own: Option<&'a Kept<'_>>) -> &'a [u8]
 }
 
 /// The contents of a manifest that may be missing.
-pub fn whole_contents<'a>(own: Option<&'a Kept<'_>>) -> &'a [u8]
+pub fn whole_contents<'a>(own: Option<&'a ReadManifest<'_>>) -> &'a [u8]
     ensures { result.now ≡ form.whole_contents (option_map (λ k. k.now) own.entry) }
 {
     match own {
@@ -75,14 +75,14 @@ fn other_among(all: &ReadManifests<'_>, name: &str) -> Option<usize>
 }
 
 /// The manifest at a place of these.
-fn kept_at<'a, 't>(kept: &'a [Kept<'t>], m: usize) -> Option<&'a Kept<'t>>
+fn kept_at<'a, 't>(kept: &'a [ReadManifest<'t>], m: usize) -> Option<&'a ReadManifest<'t>>
     ensures { option_map (λ k. k.now) result ≡ slice_get kept.now m }
 {
     kept.get(m)
 }
 
 /// The manifest with this label among those that aren't active.
-pub fn other<'a, 't>(all: &'a ReadManifests<'t>, name: &str) -> Option<&'a Kept<'t>>
+pub fn other<'a, 't>(all: &'a ReadManifests<'t>, name: &str) -> Option<&'a ReadManifest<'t>>
     ensures { option_map (λ k. k.now) result ≡ form.other_named all.now name.now }
 {
     match other_among(all, name) {
@@ -92,7 +92,10 @@ pub fn other<'a, 't>(all: &'a ReadManifests<'t>, name: &str) -> Option<&'a Kept<
 }
 
 /// Which lists of two manifests are equal, where one that is missing has empty ones.
-fn compare_manifests(target: Option<&Kept<'_>>, other: Option<&Kept<'_>>) -> Equality
+fn compare_manifests(
+    target: Option<&ReadManifest<'_>>,
+    other: Option<&ReadManifest<'_>>,
+) -> Equality
     ensures { result ≡ equality_of (option_map (λ k. k.now) target.entry)
         (option_map (λ k. k.now) other.entry) }
 {
@@ -103,8 +106,9 @@ fn compare_manifests(target: Option<&Kept<'_>>, other: Option<&Kept<'_>>) -> Equ
     }
 }
 
-/// The same of a manifest of the first store and the one of the second with its label.
-fn own_equality(own: &Kept<'_>, second: &ReadManifests<'_>) -> Equality
+/// Which lists of a manifest of the first store and the one of the second with its label are equal, where one that is missing has empty
+/// lists.
+fn own_equality(own: &ReadManifest<'_>, second: &ReadManifests<'_>) -> Equality
     ensures { result ≡ equality_of (Some own.now)
         (form.other_named second.now (label_in own.now)) }
 {

@@ -39,13 +39,13 @@ found_in_second xs ys o e f =
     none_first (find do_differ xs) (find do_differ ys) o e f
     ∙ ap (option_map shown) (sym (find-append do_differ xs ys))
 
--- the same of one pair before others
+-- what is found of one pair alone is found with others behind it
 pub found_first : (p : ListPair) (ps : List ListPair) (v : ShownPair)
     → Some v ≡ option_map shown (find do_differ (p ∷ []))
     → Some v ≡ option_map shown (find do_differ (p ∷ ps))
 found_first p ps v e = found_in_first (p ∷ []) ps v e
 
--- and of the others behind it
+-- where nothing is found of a pair, what is found of those behind it is found of all
 pub found_second : (p : ListPair) (ps : List ListPair) (o : Option ShownPair)
     → None ≡ option_map shown (find do_differ (p ∷ [])) → o ≡ option_map shown (find do_differ ps)
     → o ≡ option_map shown (find do_differ (p ∷ ps))
@@ -106,7 +106,8 @@ down_passed f n i lt so_far none =
 -- ---- one list and another, unless memory runs out
 
 -- where nothing is found in the first list, what is found in the second is found in both
-pub found_after : {E : Type 0} (xs ys : List ListPair) (r : Result (Option Difference) E) → None ≡ option_map shown (find do_differ xs)
+pub found_after : {E : Type 0} (xs ys : List ListPair) (r : Result (Option Difference) E)
+    → None ≡ option_map shown (find do_differ xs)
     → IfOk r (IsFirstOf ys) → IfOk r (IsFirstOf (xs ++ ys))
 found_after xs ys (Ok o) none h = found_in_second xs ys (option_map view o) none h
 found_after xs ys (Err e) none h = tt

@@ -5,5 +5,6 @@
 
 mod pairs;
 mod search;
+mod stores;
 
 pub use search::{active, chain_difference};

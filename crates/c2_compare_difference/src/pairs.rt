@@ -6,17 +6,17 @@ ghost use Rattle.c2_rules.specs.Ingredients.{is_ingredient_kind};
 ghost use Rattle.c2_rules.specs.Rules as rules;
 ghost use Rattle.c2_compare_spec.specs.Differences as form;
 ghost use Rattle.c2_compare_evidence.specs.Differing.{IsFirstOf};
-ghost use Rattle.c2_compare_content.specs.Targets.{equalities, equality_of};
 
+use crate::stores::{Stores, Target};
 use c2_assertion::Kind;
 use c2_base::Text;
 use c2_check_claim::{Labelled, entry_at, entry_count, find_box, owner};
 use c2_check_facts::{alg_name, label_kind};
-use c2_compare_content::{
-    Equality, claim_bytes, other, signature_contents, target_equality, whole_contents,
-};
+use c2_compare_content::{claim_bytes, other, signature_contents, target_equality, whole_contents};
 use c2_compare_evidence::{Binder, Difference, Location, compare_known, compare_lists};
-use c2_read_manifests::{Kept, ReadManifests, entry_label, ingredient, is_redacted, label, named};
+use c2_read_manifests::{
+    ReadManifest, ReadManifests, entry_label, ingredient, is_redacted, label, named,
+};
 use c2_rules::Parsed;
 use c2_spec::{Ingredient, Ref};
 
@@ -63,121 +63,109 @@ pub fn box_difference<'a>(
 
 /// The signature boxes of manifests that an ingredient refers to, where they differ.
 fn signature_difference<'a>(
-    own: &'a Kept<'_>,
+    own: &'a ReadManifest<'_>,
     reference: &'a Ref,
-    name: &'a str,
-    left: Option<&'a Kept<'_>>,
-    right: Option<&'a Kept<'_>>,
-    known: Equality,
+    target: &Target<'a, '_, '_>,
 ) -> Option<Difference<'a>>
-    requires { known ≡ equality_of (option_map (λ k. k.now) left) (option_map (λ k. k.now) right) }
-    ensures { let target = option_map (λ k. k.now) left.entry in
-        let other = option_map (λ k. k.now) right.entry in
-        IsFirstOf (form.signature_pair own.now reference.now name.now target other ∷ []) result }
+    ensures { let left = option_map (λ k. k.now) target.now.left in
+        let right = option_map (λ k. k.now) target.now.right in
+        let name = target.now.name.now in
+        IsFirstOf (form.signature_pair own.now reference.now name left right ∷ []) result }
 {
     compare_known(
-        known.signatures,
+        target.known.signatures,
         Binder::Digest(alg_name(own, &reference.alg)),
-        Location::Signature(name),
-        signature_contents(left),
-        signature_contents(right),
+        Location::Signature(target.name),
+        signature_contents(target.left),
+        signature_contents(target.right),
     )
 }
 
 /// The claims under that signature, where they differ.
-fn claim_difference<'a>(
-    name: &'a str,
-    left: Option<&'a Kept<'_>>,
-    right: Option<&'a Kept<'_>>,
-    known: Equality,
-) -> Option<Difference<'a>>
-    requires { known ≡ equality_of (option_map (λ k. k.now) left) (option_map (λ k. k.now) right) }
-    ensures { let target = option_map (λ k. k.now) left.entry in
-        let other = option_map (λ k. k.now) right.entry in
-        IsFirstOf (form.claim_pair name.now target other ∷ []) result }
+fn claim_difference<'a>(target: &Target<'a, '_, '_>) -> Option<Difference<'a>>
+    ensures { let left = option_map (λ k. k.now) target.now.left in
+        let right = option_map (λ k. k.now) target.now.right in
+        IsFirstOf (form.claim_pair target.now.name.now left right ∷ []) result }
 {
     compare_known(
-        known.claims,
-        Binder::Signature(signature_contents(left)),
-        Location::Signature(name),
-        claim_bytes(left),
-        claim_bytes(right),
+        target.known.claims,
+        Binder::Signature(signature_contents(target.left)),
+        Location::Signature(target.name),
+        claim_bytes(target.left),
+        claim_bytes(target.right),
     )
 }
 
 /// The contents of manifests that an ingredient refers to as a whole, where they differ.
 fn whole_difference<'a>(
-    own: &'a Kept<'_>,
+    own: &'a ReadManifest<'_>,
     alg: &'a Option<Text>,
-    name: &'a str,
-    left: Option<&'a Kept<'_>>,
-    right: Option<&'a Kept<'_>>,
-    known: Equality,
+    target: &Target<'a, '_, '_>,
 ) -> Option<Difference<'a>>
-    requires { known ≡ equality_of (option_map (λ k. k.now) left) (option_map (λ k. k.now) right) }
-    ensures { let target = option_map (λ k. k.now) left.entry in
-        let other = option_map (λ k. k.now) right.entry in
-        IsFirstOf (form.whole_pair own.now alg.now name.now target other ∷ []) result }
+    ensures { let left = option_map (λ k. k.now) target.now.left in
+        let right = option_map (λ k. k.now) target.now.right in
+        let name = target.now.name.now in
+        IsFirstOf (form.whole_pair own.now alg.now name left right ∷ []) result }
 {
     compare_known(
-        known.contents,
+        target.known.contents,
         Binder::Digest(alg_name(own, alg)),
-        Location::Whole(name),
-        whole_contents(left),
-        whole_contents(right),
+        Location::Whole(target.name),
+        whole_contents(target.left),
+        whole_contents(target.right),
     )
 }
 
 /// What binds the manifests that an ingredient names by this reference, where it differs.
-#[tactic(auto, using(crate::proofs::Found::found_first, crate::proofs::Found::found_second))]
 fn target_difference<'a>(
-    own: &'a Kept<'_>,
+    own: &'a ReadManifest<'_>,
     g: &'a Ingredient,
     manifest: &'a Ref,
-    name: &'a str,
-    left: Option<&'a Kept<'_>>,
-    right: Option<&'a Kept<'_>>,
-    known: Equality,
+    target: &Target<'a, '_, '_>,
 ) -> Option<Difference<'a>>
-    requires names { g.now.manifest ≡ Some manifest.now }
-    requires known { known
-        ≡ equality_of (option_map (λ k. k.now) left) (option_map (λ k. k.now) right) }
-    ensures { let target = option_map (λ k. k.now) left.entry in
-        let other = option_map (λ k. k.now) right.entry in
-        IsFirstOf (form.target_pairs own.now g.now g.now.signature name.now target other) result }
+    requires { g.now.manifest ≡ Some manifest.now }
+    ensures { let left = option_map (λ k. k.now) target.now.left in
+        let right = option_map (λ k. k.now) target.now.right in
+        let name = target.now.name.now in
+        IsFirstOf (form.target_pairs own.now g.now g.now.signature name left right) result }
 {
     match &g.signature {
         Some(reference) => {
-            if let Some(found) = signature_difference(own, reference, name, left, right, known) {
+            if let Some(found) = signature_difference(own, reference, target) {
                 return Some(found);
             }
-            claim_difference(name, left, right, known)
+            claim_difference(target)
         }
-        None => whole_difference(own, &manifest.alg, name, left, right, known),
+        None => whole_difference(own, &manifest.alg, target),
     }
 }
 
 /// What binds the manifests that an ingredient names, where it differs.
 fn named_difference<'a>(
-    first: &'a ReadManifests<'_>,
-    second: &'a ReadManifests<'_>,
-    known: &[Equality],
-    own: &'a Kept<'_>,
+    stores: &Stores<'a, '_, '_, '_>,
+    own: &'a ReadManifest<'_>,
     g: &'a Ingredient,
 ) -> Option<Difference<'a>>
-    requires { known.now ≡ equalities first.now second.now }
     ensures { let label = named_by (Some g.now) in
-        IsFirstOf (form.label_pairs first.now second.now own.now g.now label) result }
+        let pairs =
+        form.label_pairs stores.now.first.now stores.now.second.now own.now g.now label in
+        IsFirstOf pairs result }
 {
     let Some(manifest) = &g.manifest else {
         return None;
     };
     match named(manifest.url.as_str()) {
         Some(name) => {
-            let left = other(first, name);
-            let right = other(second, name);
-            let equality = target_equality(first, second, known, name);
-            target_difference(own, g, manifest, name, left, right, equality)
+            let left = other(stores.first, name);
+            let right = other(stores.second, name);
+            let known = target_equality(stores.first, stores.second, stores.known, name);
+            let target = Target {
+                name,
+                left,
+                right,
+                known,
+            };
+            target_difference(own, g, manifest, &target)
         }
         None => None,
     }
@@ -196,39 +184,34 @@ fn is_ingredient(name: &str) -> bool
 /// What leads from an entry with this label to ingredients, where it differs.
 #[tactic(auto, using(crate::proofs::Found::found_first, crate::proofs::Found::found_second))]
 fn ingredient_difference<'a>(
-    first: &'a ReadManifests<'_>,
-    second: &'a ReadManifests<'_>,
-    known: &[Equality],
+    stores: &Stores<'a, '_, '_, '_>,
     left: &Labelled<'a, '_>,
     right: &Labelled<'a, '_>,
     entry: &'a Ref,
     name: &'a str,
 ) -> Option<Difference<'a>>
-    requires { known.now ≡ equalities first.now second.now }
     ensures { let found = form.ingredient_with left.now name.now in
         IsFirstOf (form.box_pair left.now right.now entry.now name.now
-        ∷ form.named_pairs first.now second.now left.now found) result }
+        ∷ form.named_pairs stores.now.first.now stores.now.second.now left.now found) result }
 {
     if let Some(found) = box_difference(left, right, entry, name) {
         return Some(found);
     }
     match ingredient_with(left, name) {
-        Some(g) => named_difference(first, second, known, owner(left), g),
+        Some(g) => named_difference(stores, owner(left), g),
         None => None,
     }
 }
 
 /// What leads from an entry to ingredients, where it differs.
 fn entry_ingredient<'a>(
-    first: &'a ReadManifests<'_>,
-    second: &'a ReadManifests<'_>,
-    known: &[Equality],
+    stores: &Stores<'a, '_, '_, '_>,
     left: &Labelled<'a, '_>,
     right: &Labelled<'a, '_>,
     entry: &'a Ref,
 ) -> Option<Difference<'a>>
-    requires { known.now ≡ equalities first.now second.now }
-    ensures { let pairs = form.ingredient_pairs first.now second.now left.now right.now in
+    ensures { let first = stores.now.first.now in
+        let pairs = form.ingredient_pairs first stores.now.second.now left.now right.now in
         let label = label_of left.now.manifest entry.now in
         IsFirstOf (option_map_or (pairs entry.now) label []) result }
 {
@@ -236,7 +219,7 @@ fn entry_ingredient<'a>(
         Some(name) => {
             let leads = is_ingredient(name);
             if leads {
-                return ingredient_difference(first, second, known, left, right, entry, name);
+                return ingredient_difference(stores, left, right, entry, name);
             }
             None
         }
@@ -247,19 +230,17 @@ fn entry_ingredient<'a>(
 /// What leads from a manifest to its ingredients, where it differs.
 #[tactic(auto, using(crate::proofs::Found::each_found, crate::proofs::Found::each_passed))]
 pub fn ingredients_difference<'a>(
-    first: &'a ReadManifests<'_>,
-    second: &'a ReadManifests<'_>,
-    known: &[Equality],
+    stores: &Stores<'a, '_, '_, '_>,
     left: &Labelled<'a, '_>,
     right: &Labelled<'a, '_>,
 ) -> Option<Difference<'a>>
-    requires { known.now ≡ equalities first.now second.now }
-    ensures { let pairs = form.ingredient_pairs first.now second.now left.now right.now in
+    ensures { let first = stores.now.first.now in
+        let pairs = form.ingredient_pairs first stores.now.second.now left.now right.now in
         IsFirstOf (form.entry_pairs pairs left.now) result }
 {
     for k in 0..entry_count(left) {
         let entry = entry_at(left, k);
-        let found = entry_ingredient(first, second, known, left, right, entry);
+        let found = entry_ingredient(stores, left, right, entry);
         if let Some(found) = found {
             return Some(found);
         }

@@ -6,15 +6,16 @@ ghost use Rattle.c2_compare_evidence.specs.Differing.{IsFirstOf};
 ghost use Rattle.c2_compare_content.specs.Targets.{equalities};
 
 use crate::pairs::{ingredients_difference, unredacted_difference};
+use crate::stores::Stores;
 use c2_base::NoMemory;
 use c2_check_claim::with_labels;
 use c2_compare_content::{Equality, all_equalities, manifest_at, other};
 use c2_compare_evidence::Difference;
-use c2_read_manifests::{Kept, ReadManifests, is_active, is_reached, label, manifests};
+use c2_read_manifests::{ReadManifest, ReadManifests, is_active, is_reached, label, manifests};
 use std::alloc::Global;
 
 /// The active manifest of a store.
-pub fn active<'a, 't>(all: &'a ReadManifests<'t>) -> Option<&'a Kept<'t>>
+pub fn active<'a, 't>(all: &'a ReadManifests<'t>) -> Option<&'a ReadManifest<'t>>
     ensures { option_map (λ k. k.now) result ≡ active_in all.now }
 {
     let count = manifests(all).len();
@@ -29,7 +30,7 @@ fn counterpart_at<'a, 't>(
     first: &ReadManifests<'_>,
     second: &'a ReadManifests<'t>,
     n: usize,
-) -> Option<&'a Kept<'t>>
+) -> Option<&'a ReadManifest<'t>>
     requires { n < length first.now }
     ensures { option_map (λ k. k.now) result ≡ form.counterpart_at first.now second.now n }
 {
@@ -60,7 +61,12 @@ fn ingredients_at<'a>(
         Some(own) => {
             let left = with_labels(alloc, manifest_at(first, n))?;
             let right = with_labels(alloc, own)?;
-            Ok(ingredients_difference(first, second, known, &left, &right))
+            let stores = Stores {
+                first,
+                second,
+                known,
+            };
+            Ok(ingredients_difference(&stores, &left, &right))
         }
         None => Ok(None),
     }

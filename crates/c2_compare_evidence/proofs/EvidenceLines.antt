@@ -21,13 +21,13 @@ assertion_lines m l =
     (map-append printed_byte m (codes "/c2pa.assertions/" ++ l)
     ∙ ap (λ y. printed m ++ (printed (codes "/c2pa.assertions/") ++ y)) (sym (append-nil (printed l))))
 
--- that of a signature
+-- the location of a signature
 pub signature_lines : (m : List ℕ) → printed (box_uri m signature)
     ≡ printed (codes "self#jumbf=/c2pa/") ++ (printed m ++ (printed (codes "/c2pa.signature") ++ []))
 signature_lines m =
     ap (λ x. printed (codes "self#jumbf=/c2pa/") ++ x) (map-append printed_byte m (codes "/c2pa.signature"))
 
--- that of a manifest
+-- the location of a manifest
 pub whole_lines : (m : List ℕ) → printed (box_uri m whole) ≡ printed (codes "self#jumbf=/c2pa/") ++ (printed m ++ [])
 whole_lines m = ap (λ x. printed (codes "self#jumbf=/c2pa/") ++ x) (map-append printed_byte m [])
 
@@ -36,7 +36,8 @@ pub evidence_parts : (p : ListPair)
     → form.evidence_text p ≡ opening (shown_by p.bound_by) ++ (printed p.location ++ later_lines (shown_by p.bound_by) p.left p.right)
 evidence_parts p = by p.bound_by
   where
-    by : (b : BoundBy) → form.head_line b p.location ++ concat (form.box_lines b ++ form.hex_line p.left ∷ form.hex_line p.right ∷ [])
+    by : (b : BoundBy)
+        → form.head_line b p.location ++ concat (form.box_lines b ++ form.hex_line p.left ∷ form.hex_line p.right ∷ [])
         ≡ opening (shown_by b) ++ (printed p.location ++ later_lines (shown_by b) p.left p.right)
     by (by_digest name) =
         let a : List ℕ = codes "evidence digest " ++ name ++ codes " " in
@@ -54,4 +55,5 @@ pub found_parts : (d : Difference) (p : ListPair) → view d ≡ shown p
     → form.evidence_text p ≡ opening (binder_view d.bound_by) ++ (printed (location_view d.location) ++ later_lines (binder_view d.bound_by) d.left.now d.right.now)
 found_parts d p e =
     evidence_parts p
-    ∙ ap (λ (v : ShownPair). opening v.bound_by ++ (printed v.location ++ later_lines v.bound_by v.left v.right)) (sym e)
+    ∙ ap (λ (v : ShownPair). opening v.bound_by ++ (printed v.location ++ later_lines v.bound_by v.left v.right))
+    (sym e)

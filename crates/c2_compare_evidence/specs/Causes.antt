@@ -9,26 +9,27 @@ use Rattle.c2_compare_evidence.specs.declared.error.CompareError.TheVariants.{Re
 abbrev pub IsFailure : ℕ → ℕ → Failed → Type 0
 IsFailure before now failed = Rose before now
 
--- Of a source that is read beside another, whose count of faults is given first: `ReadFault` comes only where one of the two failed.
-abbrev pub IsReadCause : ℕ → ℕ → ℕ → ℕ → CompareError → Type 0
-IsReadCause other_before other_now before now ReadFault = Rose before now ⊎ Rose other_before other_now
-IsReadCause other_before other_now before now WriteFault = ⊤
-IsReadCause other_before other_now before now JudgeFault = ⊤
-IsReadCause other_before other_now before now NoMemory = ⊤
+-- The cause of an error, as far as it is one of a source that is read beside another, whose count of faults is given first: `ReadFault`
+-- comes only where one of the two failed.
+abbrev pub IsReadCauseBeside : ℕ → ℕ → ℕ → ℕ → CompareError → Type 0
+IsReadCauseBeside other_before other_now before now ReadFault = Rose before now ⊎ Rose other_before other_now
+IsReadCauseBeside other_before other_now before now WriteFault = ⊤
+IsReadCauseBeside other_before other_now before now JudgeFault = ⊤
+IsReadCauseBeside other_before other_now before now NoMemory = ⊤
 
--- of the one source of a call: `ReadFault` comes only where it failed
+-- the cause of an error, as far as it is one of the only source of a call: `ReadFault` comes only where that source failed
 abbrev pub IsLoneCause : ℕ → ℕ → CompareError → Type 0
 IsLoneCause before now ReadFault = Rose before now
 IsLoneCause before now WriteFault = ⊤
 IsLoneCause before now JudgeFault = ⊤
 IsLoneCause before now NoMemory = ⊤
 
--- of the report: `WriteFault` comes only where it failed
-abbrev pub IsWriteCause : ℕ → ℕ → CompareError → Type 0
-IsWriteCause before now ReadFault = ⊤
-IsWriteCause before now WriteFault = Rose before now
-IsWriteCause before now JudgeFault = ⊤
-IsWriteCause before now NoMemory = ⊤
+-- the cause of an error, as far as it is one of the report: `WriteFault` comes only where the report failed
+abbrev pub IsReportCause : ℕ → ℕ → CompareError → Type 0
+IsReportCause before now ReadFault = ⊤
+IsReportCause before now WriteFault = Rose before now
+IsReportCause before now JudgeFault = ⊤
+IsReportCause before now NoMemory = ⊤
 
 -- an error of a call that asks no judge
 abbrev pub IsUnjudged : CompareError → Type 0

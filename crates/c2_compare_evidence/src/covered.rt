@@ -6,7 +6,7 @@ ghost use Rattle.c2_base.specs.Sink.{WritesSink};
 ghost use Rattle.c2_base.specs.Source.{ReadsSource};
 ghost use Rattle.c2_cover.specs.Covers.{IsSameText, text_of};
 ghost use Rattle.c2_compare_spec.specs.EvidenceText.{hex_line};
-ghost use Rattle.c2_compare_evidence.specs.Causes.{IsFailure, IsFault, IsLoneCause, IsOfReading, IsReadCause, IsUnjudged, IsWriteCause};
+ghost use Rattle.c2_compare_evidence.specs.Causes.{IsFailure, IsFault, IsLoneCause, IsOfReading, IsReadCauseBeside, IsUnjudged, IsReportCause};
 ghost use Rattle.c2_compare_evidence.specs.Covered.{covered_evidence, covered_head};
 ghost use Rattle.c2_compare_evidence.specs.Writing.{IsWritten};
 
@@ -46,9 +46,9 @@ pub fn same_covered<A: Source, B: Source>(
         (IsSameText cover.now (A.known first.old) other.now (B.known second.old)) }
     ensures errors { IfErr result IsOfReading }
     ensures first { ReadsSource A.len A.known A.faults
-        (IsReadCause (B.faults second.old) (B.faults second.new)) first.old first.new result }
+        (IsReadCauseBeside (B.faults second.old) (B.faults second.new)) first.old first.new result }
     ensures second { ReadsSource B.len B.known B.faults
-        (IsReadCause (A.faults first.old) (A.faults first.new)) second.old second.new result }
+        (IsReadCauseBeside (A.faults first.old) (A.faults first.new)) second.old second.new result }
 {
     let mut left = match vec![in alloc; 0; PIECE_LEN] {
         Ok(left) => left,
@@ -78,7 +78,7 @@ fn write_text<S: Source, W: Sink>(
         (W.written report.old) (W.written report.new) result) }
     ensures errors { IfErr result IsFault }
     ensures source { ReadsSource S.len S.known S.faults IsLoneCause source.old source.new result }
-    ensures report { WritesSink W.written W.finished W.faults IsWriteCause report.old report.new
+    ensures report { WritesSink W.written W.finished W.faults IsReportCause report.old report.new
         result }
     ensures same_len { length buf.new ≡ length buf.old }
 {
@@ -112,7 +112,7 @@ fn write_line<S: Source, W: Sink>(
         (hex_line (text_of cover.now file)) (W.written report.old) (W.written report.new) result) }
     ensures errors { IfErr result IsFault }
     ensures source { ReadsSource S.len S.known S.faults IsLoneCause source.old source.new result }
-    ensures report { WritesSink W.written W.finished W.faults IsWriteCause report.old report.new
+    ensures report { WritesSink W.written W.finished W.faults IsReportCause report.old report.new
         result }
     ensures same_len { length buf.new ≡ length buf.old }
 {
@@ -163,10 +163,10 @@ pub fn write_covered<A: Source, B: Source, W: Sink>(
         (W.written report.old) (W.written report.new) result)) }
     ensures errors { IfErr result IsUnjudged }
     ensures first { ReadsSource A.len A.known A.faults
-        (IsReadCause (B.faults second.old) (B.faults second.new)) first.old first.new result }
+        (IsReadCauseBeside (B.faults second.old) (B.faults second.new)) first.old first.new result }
     ensures second { ReadsSource B.len B.known B.faults
-        (IsReadCause (A.faults first.old) (A.faults first.new)) second.old second.new result }
-    ensures report { WritesSink W.written W.finished W.faults IsWriteCause report.old report.new
+        (IsReadCauseBeside (A.faults first.old) (A.faults first.new)) second.old second.new result }
+    ensures report { WritesSink W.written W.finished W.faults IsReportCause report.old report.new
         result }
 {
     let mut buf = match vec![in alloc; 0; PIECE_LEN] {

@@ -7,7 +7,7 @@ ghost use Rattle.c2_compare_evidence.specs.Shown.{shown_by};
 /// What binds two lists to one claim.
 #[derive(Clone, Copy, Debug)]
 pub enum Binder<'a> {
-    /// Their digest, by the algorithm with this name.
+    /// The digest of both lists, by the algorithm with this name.
     Digest(&'a str),
 
     /// The signature in the box with these contents.

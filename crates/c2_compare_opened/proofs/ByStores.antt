@@ -12,17 +12,19 @@ use Rattle.c2_compare_spec.specs.Evidence.{ListPair, IsReal}
 use Rattle.c2_compare_spec.specs.EvidenceText.{evidence_text}
 use Rattle.c2_compare_spec.specs.declared.compared.Compared.TheVariants as compared
 use Rattle.c2_compare_spec.specs.declared.compared.EvidenceKind.{EvidenceKind}
-use Rattle.c2_compare_spec.proofs.Unwritten.{then_nothing}
 use Rattle.c2_compare_evidence.specs.declared.error.CompareError.{CompareError}
 use Rattle.c2_compare_opened.specs.Comparing.{IsComparedAs}
 use Rattle.c2_compare_opened.specs.Settled.{HaveFirst, IsSettled, compared_of}
 use Rattle.c2_compare_opened.specs.declared.settling.Settled.{Settled}
 use Rattle.c2_compare_opened.specs.declared.settling.Settled.TheVariants.{DifferentClaims, Evidence, Same}
+use Rattle.c2_base.proofs.Written.{then_nothing}
 
 module _ (hash : Alg → List ℕ → List ℕ) (said : Question → Verdict) (first second : List ℕ) where
   -- the first difference of accepted files with one claim is real
   abbrev pub RealLaw : Type 0
-  RealLaw = (s t : StoreReading) → HaveOneClaim hash said first second s t → (p : ListPair) → first_difference s t ≡ Some p → IsReal hash said p
+  RealLaw =
+      (s t : StoreReading) → HaveOneClaim hash said first second s t → (p : ListPair) → first_difference s t ≡ Some p
+      → IsReal hash said p
 
   -- ---- by two stores
 
@@ -31,7 +33,8 @@ module _ (hash : Alg → List ℕ → List ℕ) (said : Question → Verdict) (f
     evidence_is : RealLaw → (p : ListPair) → HaveFirst s t p → (kind : EvidenceKind) → kind ≡ evidence_kind p.bound_by
         → IsComparison hash said first second (compared.Evidence kind) (evidence_text p)
     evidence_is law p f kind is =
-        let one : HaveOneClaim hash said first second s t = record { first_accepted = h; second_accepted = k; claims = f.claims } in
+        let one : HaveOneClaim hash said first second s t =
+        record { first_accepted = h; second_accepted = k; claims = f.claims } in
         record {
           store = s;
           other = t;
@@ -77,7 +80,8 @@ module _ (hash : Alg → List ℕ → List ℕ) (said : Question → Verdict) (f
     )
 
     -- whatever it is
-    pub settled_as : RealLaw → (summary : Summary) (old new : Option (List ℕ)) → summary ≡ summary_in first s h.opened → (x : Settled)
+    pub settled_as : RealLaw → (summary : Summary) (old new : Option (List ℕ)) → summary ≡ summary_in first s h.opened
+        → (x : Settled)
         → IsSettled s t old new (Ok x) → IsComparedAs hash said first second old new (Ok (compared_of x summary))
     settled_as law summary old new is DifferentClaims d = different old new d
     settled_as law summary old new is (Evidence kind) d = evidence law kind old new d
@@ -88,4 +92,5 @@ module _ (hash : Alg → List ℕ → List ℕ) (said : Question → Verdict) (f
         → IsComparedAs hash said first second old new (Err e)
     failed law e old new (inl unchanged) = inl unchanged
     failed law e old new (inr w) =
-        inr (compared.Evidence (evidence_kind w.0.bound_by), evidence_text w.0, evidence_is law w.0 w.1 (evidence_kind w.0.bound_by) refl, w.2)
+        inr
+        (compared.Evidence (evidence_kind w.0.bound_by), evidence_text w.0, evidence_is law w.0 w.1 (evidence_kind w.0.bound_by) refl, w.2)

@@ -60,27 +60,33 @@ chain_pairs rs ss = all_ingredients rs ss ++ all_unredacted rs ss
 by_chain : (s t : StoreReading)
     → first_difference s t ≡ option_or (find do_differ (chain_pairs s.readings t.readings)) (find do_differ (covered_pair s t ∷ []))
 by_chain s t =
-    ap (find do_differ) (sym (append_assoc (all_ingredients s.readings t.readings) (all_unredacted s.readings t.readings) (covered_pair s t ∷ [])))
+    ap (find do_differ)
+    (sym (append_assoc (all_ingredients s.readings t.readings) (all_unredacted s.readings t.readings) (covered_pair s t ∷ [])))
     ∙ find-append do_differ (chain_pairs s.readings t.readings) (covered_pair s t ∷ [])
 
 -- the chain contents differ
-chain_first : (s t : StoreReading) (p : ListPair) → find do_differ (chain_pairs s.readings t.readings) ≡ Some p → first_difference s t ≡ Some p
+chain_first : (s t : StoreReading) (p : ListPair) → find do_differ (chain_pairs s.readings t.readings) ≡ Some p
+    → first_difference s t ≡ Some p
 chain_first s t p e = by_chain s t ∙ ap (λ o. option_or o (find do_differ (covered_pair s t ∷ []))) e
 
--- they don't
-chain_none : (s t : StoreReading) → find do_differ (chain_pairs s.readings t.readings) ≡ None → first_difference s t ≡ find do_differ (covered_pair s t ∷ [])
+-- where the chain contents don't differ, the first difference is one of the covered texts
+chain_none : (s t : StoreReading) → find do_differ (chain_pairs s.readings t.readings) ≡ None
+    → first_difference s t ≡ find do_differ (covered_pair s t ∷ [])
 chain_none s t e = by_chain s t ∙ ap (λ o. option_or o (find do_differ (covered_pair s t ∷ []))) e
 
 -- a pair of covered texts that are equal, and of others
-covered_same : (s t : StoreReading) → bytes_eq (covered_text s) (covered_text t) ≡ true → find do_differ (covered_pair s t ∷ []) ≡ None
+covered_same : (s t : StoreReading) → bytes_eq (covered_text s) (covered_text t) ≡ true
+    → find do_differ (covered_pair s t ∷ []) ≡ None
 covered_same s t e = ap (λ b. cond (not b) (Some (covered_pair s t)) None) e
 
--- they differ
-covered_other : (s t : StoreReading) → bytes_eq (covered_text s) (covered_text t) ≡ false → find do_differ (covered_pair s t ∷ []) ≡ Some (covered_pair s t)
+-- a pair of covered texts that differ is the difference
+covered_other : (s t : StoreReading) → bytes_eq (covered_text s) (covered_text t) ≡ false
+    → find do_differ (covered_pair s t ∷ []) ≡ Some (covered_pair s t)
 covered_other s t e = ap (λ b. cond (not b) (Some (covered_pair s t)) None) e
 
 -- the text of evidence on covered texts
-covered_lines : (s t : StoreReading) → evidence_text (covered_pair s t) ≡ covered_evidence (covered_alg s) (covered_text s) (covered_text t)
+covered_lines : (s t : StoreReading)
+    → evidence_text (covered_pair s t) ≡ covered_evidence (covered_alg s) (covered_text s) (covered_text t)
 unfolding covered_head
 covered_lines s t =
     let a = covered_alg s in
@@ -89,29 +95,36 @@ covered_lines s t =
     append_assoc (front ++ codes " ") (printed (codes "covered")) (codes "\n")
     ∙ append_assoc front (codes " ") (codes "covered\n") in
     ap (λ x. x ++ (hex_line (covered_text s) ++ (hex_line (covered_text t) ++ []))) head
-    ∙ ap (λ x. (codes "evidence digest " ++ a ++ codes " covered\n") ++ (hex_line (covered_text s) ++ x)) (append-nil (hex_line (covered_text t)))
+    ∙ ap (λ x. (codes "evidence digest " ++ a ++ codes " covered\n") ++ (hex_line (covered_text s) ++ x))
+    (append-nil (hex_line (covered_text t)))
 
 -- ---- one claim
 
 -- active claims of stores that were read so
-claims_of : (s t : StoreReading) (rs ss : List Reading) → s.readings ≡ rs → t.readings ≡ ss → active_claim rs ≡ active_claim ss
+claims_of : (s t : StoreReading) (rs ss : List Reading) → s.readings ≡ rs → t.readings ≡ ss
+    → active_claim rs ≡ active_claim ss
     → active_claim s.readings ≡ active_claim t.readings
 claims_of s t rs ss e f claims = ap active_claim e ∙ claims ∙ sym (ap active_claim f)
 
 -- the pairs of stores that were read so
 pairs_of : (s t : StoreReading) (rs ss : List Reading) → s.readings ≡ rs → t.readings ≡ ss
     → find do_differ (chain_pairs s.readings t.readings) ≡ find do_differ (chain_pairs rs ss)
-pairs_of s t rs ss e f = ap (λ x. find do_differ (chain_pairs x t.readings)) e ∙ ap (λ x. find do_differ (chain_pairs rs x)) f
+pairs_of s t rs ss e f =
+    ap (λ x. find do_differ (chain_pairs x t.readings)) e ∙ ap (λ x. find do_differ (chain_pairs rs x)) f
 
 module _ {hash : Alg → List ℕ → List ℕ} {said : Question → Verdict} {a b : List ℕ} {rs ss : List Reading} {text other : BoundText} {summary summary' : Summary}
     (h : IsCompareSide hash said a rs text summary) (k : IsCompareSide hash said b ss other summary') where
   -- a test of the covered texts
-  covered_test : (same : Bool) → same ≡ bytes_eq (text_of text.cover a) (text_of other.cover b) → same ≡ bytes_eq (covered_text h.store) (covered_text k.store)
-  covered_test same e = e ∙ ap (λ x. bytes_eq x (text_of other.cover b)) h.is_text ∙ ap (bytes_eq (covered_text h.store)) k.is_text
+  covered_test : (same : Bool) → same ≡ bytes_eq (text_of text.cover a) (text_of other.cover b)
+      → same ≡ bytes_eq (covered_text h.store) (covered_text k.store)
+  covered_test same e =
+      e ∙ ap (λ x. bytes_eq x (text_of other.cover b)) h.is_text ∙ ap (bytes_eq (covered_text h.store)) k.is_text
 
   -- a test of the chain contents
-  content_test : (same : Bool) → same ≡ has_same_content rs ss → same ≡ has_same_content h.store.readings k.store.readings
-  content_test same e = e ∙ sym (ap (λ x. has_same_content x ss) h.readings) ∙ sym (ap (has_same_content h.store.readings) k.readings)
+  content_test : (same : Bool) → same ≡ has_same_content rs ss
+      → same ≡ has_same_content h.store.readings k.store.readings
+  content_test same e =
+      e ∙ sym (ap (λ x. has_same_content x ss) h.readings) ∙ sym (ap (has_same_content h.store.readings) k.readings)
 
   -- whether both are equal
   abbrev pub Says : Bool → Type 0
@@ -139,7 +152,8 @@ module _ {hash : Alg → List ℕ → List ℕ} {said : Question → Verdict} {a
   )
 
   -- the first difference of the chain contents is that of both
-  first_of_chain : (found : Difference) → active_claim rs ≡ active_claim ss → IsFirstOf (chain_pairs rs ss) (Some found) → (AreSame h.store k.store → ⊥)
+  first_of_chain : (found : Difference) → active_claim rs ≡ active_claim ss → IsFirstOf (chain_pairs rs ss) (Some found)
+      → (AreSame h.store k.store → ⊥)
       → (p : ListPair) × HaveFirst h.store k.store p × (view found ≡ shown p)
   first_of_chain found claims first differ =
       let p = shown_some (find do_differ (chain_pairs rs ss)) (view found) first in (
@@ -153,54 +167,66 @@ module _ {hash : Alg → List ℕ → List ℕ} {said : Question → Verdict} {a
       )
 
   -- evidence on the chain contents was written
-  pub chain_written : (found : Difference) (kind : EvidenceKind) (old new : Option (List ℕ)) → active_claim rs ≡ active_claim ss
-      → IsFirstOf (chain_pairs rs ss) (Some found) → (AreSame h.store k.store → ⊥) → kind ≡ shown_kind (binder_view found.bound_by)
-      → ((p : ListPair) → view found ≡ shown p → Appends old new (evidence_text p)) → IsSettled h.store k.store old new (Ok (Evidence kind))
+  pub chain_written : (found : Difference) (kind : EvidenceKind) (old new : Option (List ℕ))
+      → active_claim rs ≡ active_claim ss
+      → IsFirstOf (chain_pairs rs ss) (Some found) → (AreSame h.store k.store → ⊥)
+      → kind ≡ shown_kind (binder_view found.bound_by)
+      → ((p : ListPair) → view found ≡ shown p → Appends old new (evidence_text p))
+      → IsSettled h.store k.store old new (Ok (Evidence kind))
   chain_written found kind old new claims first differ is wrote =
       let f = first_of_chain found claims first differ in
       (f.0, f.1, is ∙ ap (λ (v : ShownPair). shown_kind v.bound_by) f.2 ∙ kind_shown f.0.bound_by, wrote f.0 f.2)
 
   -- a prefix of it
-  pub chain_prefix : (found : Difference) (e : CompareError) (old new : Option (List ℕ)) → active_claim rs ≡ active_claim ss
+  pub chain_prefix : (found : Difference) (e : CompareError) (old new : Option (List ℕ))
+      → active_claim rs ≡ active_claim ss
       → IsFirstOf (chain_pairs rs ss) (Some found) → (AreSame h.store k.store → ⊥)
-      → ((p : ListPair) → view found ≡ shown p → HasWrittenPrefix old new (evidence_text p)) → IsSettled h.store k.store old new (Err e)
+      → ((p : ListPair) → view found ≡ shown p → HasWrittenPrefix old new (evidence_text p))
+      → IsSettled h.store k.store old new (Err e)
   chain_prefix found e old new claims first differ wrote =
       let f = first_of_chain found claims first differ in
       inr (f.0, f.1, wrote f.0 f.2)
 
   -- all is equal
-  pub all_equal : (old : Option (List ℕ)) → active_claim rs ≡ active_claim ss → AreSame h.store k.store → IsSettled h.store k.store old old (Ok Same)
+  pub all_equal : (old : Option (List ℕ)) → active_claim rs ≡ active_claim ss → AreSame h.store k.store
+      → IsSettled h.store k.store old old (Ok Same)
   all_equal old claims same = (claims_of h.store k.store rs ss h.readings k.readings claims, same, refl)
 
   -- other active claims
-  pub other_claims : (old : Option (List ℕ)) → (active_claim rs ≡ active_claim ss → ⊥) → IsSettled h.store k.store old old (Ok DifferentClaims)
+  pub other_claims : (old : Option (List ℕ)) → (active_claim rs ≡ active_claim ss → ⊥)
+      → IsSettled h.store k.store old old (Ok DifferentClaims)
   other_claims old differ = ((λ e. differ (sym (ap active_claim h.readings) ∙ e ∙ ap active_claim k.readings)), refl)
 
   -- no list of the chain contents differs, and the covered texts are equal
   pub covered_equal : ((first second : List ℕ) → HaveOneClaim hash said first second h.store k.store → first_difference h.store k.store ≡ None → AreSame h.store k.store)
       → (same : Bool) (old : Option (List ℕ)) → active_claim rs ≡ active_claim ss → IsFirstOf (chain_pairs rs ss) None
-      → same ≡ bytes_eq (text_of text.cover a) (text_of other.cover b) → same ≡ true → IsSettled h.store k.store old old (Ok Same)
+      → same ≡ bytes_eq (text_of text.cover a) (text_of other.cover b) → same ≡ true
+      → IsSettled h.store k.store old old (Ok Same)
   covered_equal law same old claims none e yes' =
       let equal = claims_of h.store k.store rs ss h.readings k.readings claims in
       let no_pair : first_difference h.store k.store ≡ None =
-      chain_none h.store k.store (pairs_of h.store k.store rs ss h.readings k.readings ∙ shown_none (find do_differ (chain_pairs rs ss)) none)
+      chain_none h.store k.store
+      (pairs_of h.store k.store rs ss h.readings k.readings ∙ shown_none (find do_differ (chain_pairs rs ss)) none)
       ∙ covered_same h.store k.store (sym (covered_test same e) ∙ yes') in
       (equal, law a b (record { first_accepted = h.accepted; second_accepted = k.accepted; claims = equal }) no_pair, refl)
 
   -- the covered texts differ
   covered_first : (same : Bool) → active_claim rs ≡ active_claim ss → IsFirstOf (chain_pairs rs ss) None
-      → same ≡ bytes_eq (text_of text.cover a) (text_of other.cover b) → same ≡ false → HaveFirst h.store k.store (covered_pair h.store k.store)
+      → same ≡ bytes_eq (text_of text.cover a) (text_of other.cover b) → same ≡ false
+      → HaveFirst h.store k.store (covered_pair h.store k.store)
   covered_first same claims none e no' =
       let differ : bytes_eq (covered_text h.store) (covered_text k.store) ≡ false = sym (covered_test same e) ∙ no' in
       record {
         claims = claims_of h.store k.store rs ss h.readings k.readings claims;
-        differ = λ equal. not_from_Decides (bytes_eq (covered_text h.store) (covered_text k.store)) (bytes_eq-Decides (covered_text h.store) (covered_text k.store)) differ equal.covered;
+        differ =
+            λ equal. not_from_Decides (bytes_eq (covered_text h.store) (covered_text k.store)) (bytes_eq-Decides (covered_text h.store) (covered_text k.store)) differ equal.covered;
         is_first = chain_none h.store k.store (pairs_of h.store k.store rs ss h.readings k.readings ∙ shown_none (find do_differ (chain_pairs rs ss)) none)
             ∙ covered_other h.store k.store differ;
       }
 
   -- the text that is written of them
-  covered_text_is : evidence_text (covered_pair h.store k.store) ≡ covered_evidence text.alg (text_of text.cover a) (text_of other.cover b)
+  covered_text_is : evidence_text (covered_pair h.store k.store) ≡ covered_evidence text.alg (text_of text.cover a)
+      (text_of other.cover b)
   covered_text_is =
       covered_lines h.store k.store
       ∙ ap (λ x. covered_evidence x (covered_text h.store) (covered_text k.store)) (sym h.is_alg)
@@ -208,18 +234,23 @@ module _ {hash : Alg → List ℕ → List ℕ} {said : Question → Verdict} {a
       ∙ ap (covered_evidence text.alg (text_of text.cover a)) (sym k.is_text)
 
   -- evidence on the covered texts was written
-  pub covered_written : (same : Bool) (old new : Option (List ℕ)) → active_claim rs ≡ active_claim ss → IsFirstOf (chain_pairs rs ss) None
+  pub covered_written : (same : Bool) (old new : Option (List ℕ)) → active_claim rs ≡ active_claim ss
+      → IsFirstOf (chain_pairs rs ss) None
       → same ≡ bytes_eq (text_of text.cover a) (text_of other.cover b) → same ≡ false
-      → Appends old new (covered_evidence text.alg (text_of text.cover a) (text_of other.cover b)) → IsSettled h.store k.store old new (Ok (Evidence EvidenceKind.Digest))
+      → Appends old new (covered_evidence text.alg (text_of text.cover a) (text_of other.cover b))
+      → IsSettled h.store k.store old new (Ok (Evidence EvidenceKind.Digest))
   covered_written same old new claims none e no' wrote =
       (covered_pair h.store k.store, covered_first same claims none e no', refl, subst (Appends old new) (sym covered_text_is) wrote)
 
   -- a prefix of it
-  pub covered_prefix : (same : Bool) (error : CompareError) (old new : Option (List ℕ)) → active_claim rs ≡ active_claim ss → IsFirstOf (chain_pairs rs ss) None
+  pub covered_prefix : (same : Bool) (error : CompareError) (old new : Option (List ℕ))
+      → active_claim rs ≡ active_claim ss → IsFirstOf (chain_pairs rs ss) None
       → same ≡ bytes_eq (text_of text.cover a) (text_of other.cover b) → same ≡ false
-      → HasWrittenPrefix old new (covered_evidence text.alg (text_of text.cover a) (text_of other.cover b)) → IsSettled h.store k.store old new (Err error)
+      → HasWrittenPrefix old new (covered_evidence text.alg (text_of text.cover a) (text_of other.cover b))
+      → IsSettled h.store k.store old new (Err error)
   covered_prefix same error old new claims none e no' wrote =
-      inr (covered_pair h.store k.store, covered_first same claims none e no', subst (HasWrittenPrefix old new) (sym covered_text_is) wrote)
+      inr
+      (covered_pair h.store k.store, covered_first same claims none e no', subst (HasWrittenPrefix old new) (sym covered_text_is) wrote)
 
   -- what the covered texts say, unless the call fails
   pub said_of : {E : Type 0} (r : Result Bool E) (ka kb : Option (List ℕ)) → ka ≡ Some a → kb ≡ Some b

@@ -9,7 +9,7 @@ ghost use Rattle.c2_compare_spec.specs.ChainContent as content;
 ghost use Rattle.c2_compare_spec.specs.Differences as form;
 ghost use Rattle.c2_spec.specs.declared.digest.Alg.{Alg as AnyAlg};
 ghost use Rattle.c2_spec.specs.declared.panel.Verdict.{Verdict as AnyVerdict};
-ghost use Rattle.c2_compare_evidence.specs.Causes.{IsOfReading, IsReadCause, IsUnjudged, IsWriteCause};
+ghost use Rattle.c2_compare_evidence.specs.Causes.{IsOfReading, IsReadCauseBeside, IsUnjudged, IsReportCause};
 ghost use Rattle.c2_compare_evidence.specs.Differing.{IsFirstOf, binder_view};
 ghost use Rattle.c2_compare_opened.specs.Settled.{IsSettled, shown_kind};
 ghost use Rattle.c2_compare_opened.specs.Sides.{IsSided};
@@ -21,20 +21,20 @@ use c2_compare_evidence::{
     Binder, CompareError, CoveredTexts, same_covered, write_covered, write_evidence,
 };
 use c2_compare_sameness::has_same_content;
-use c2_compare_spec::{EvidenceKind, a_difference_is_found, a_test_decides_content};
+use c2_compare_spec::EvidenceKind;
 use c2_read_manifests::{ReadManifests, claim_bytes};
 use std::alloc::Global;
 
 /// What two accepted files come to.
 #[derive(Clone, Copy, Debug)]
 pub enum Settled {
-    /// Their active claims differ.
+    /// The active claims of the files differ.
     DifferentClaims,
 
     /// Evidence of this kind was written.
     Evidence(EvidenceKind),
 
-    /// All is equal.
+    /// The active claims, the chain contents and the covered texts are equal.
     Same,
 }
 
@@ -75,12 +75,10 @@ fn are_same<A: Source, B: Source>(
         × (same ≡ false → AreSame h.store k.store → ⊥)))) }
     ensures errors { IfErr result IsOfReading }
     ensures first { ReadsSource A.len A.known A.faults
-        (IsReadCause (B.faults second.old) (B.faults second.new)) first.old first.new result }
+        (IsReadCauseBeside (B.faults second.old) (B.faults second.new)) first.old first.new result }
     ensures second { ReadsSource B.len B.known B.faults
-        (IsReadCause (A.faults first.old) (A.faults first.new)) second.old second.new result }
+        (IsReadCauseBeside (A.faults first.old) (A.faults first.new)) second.old second.new result }
 {
-    // Only the prover needs this law.
-    a_test_decides_content();
     let content = match has_same_content(alloc, one.readings, two.readings) {
         Ok(content) => content,
         Err(NoMemory) => return Err(CompareError::NoMemory),
@@ -113,14 +111,12 @@ fn settle_covered<A: Source, B: Source, W: Sink>(
         → IsSettled h.store k.store (W.written report.old) (W.written report.new) result)) }
     ensures errors { IfErr result IsUnjudged }
     ensures first { ReadsSource A.len A.known A.faults
-        (IsReadCause (B.faults second.old) (B.faults second.new)) first.old first.new result }
+        (IsReadCauseBeside (B.faults second.old) (B.faults second.new)) first.old first.new result }
     ensures second { ReadsSource B.len B.known B.faults
-        (IsReadCause (A.faults first.old) (A.faults first.new)) second.old second.new result }
-    ensures report { WritesSink W.written W.finished W.faults IsWriteCause report.old report.new
+        (IsReadCauseBeside (A.faults first.old) (A.faults first.new)) second.old second.new result }
+    ensures report { WritesSink W.written W.finished W.faults IsReportCause report.old report.new
         result }
 {
-    // Only the prover needs this law.
-    a_difference_is_found();
     // Matched and not handed up by `?`, here and below: each way out has clauses of its own.
     let same = match same_covered(alloc, first, &one.text.cover, second, &two.text.cover) {
         Ok(same) => same,
@@ -158,10 +154,10 @@ pub fn settle<A: Source, B: Source, W: Sink>(
         → IsSettled h.store k.store (W.written report.old) (W.written report.new) result)) }
     ensures errors { IfErr result IsUnjudged }
     ensures first { ReadsSource A.len A.known A.faults
-        (IsReadCause (B.faults second.old) (B.faults second.new)) first.old first.new result }
+        (IsReadCauseBeside (B.faults second.old) (B.faults second.new)) first.old first.new result }
     ensures second { ReadsSource B.len B.known B.faults
-        (IsReadCause (A.faults first.old) (A.faults first.new)) second.old second.new result }
-    ensures report { WritesSink W.written W.finished W.faults IsWriteCause report.old report.new
+        (IsReadCauseBeside (A.faults first.old) (A.faults first.new)) second.old second.new result }
+    ensures report { WritesSink W.written W.finished W.faults IsReportCause report.old report.new
         result }
 {
     let equal = equal_claims(one.readings, two.readings);

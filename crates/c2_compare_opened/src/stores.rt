@@ -6,7 +6,7 @@ ghost use Rattle.c2_base.specs.Source.{ReadsSource};
 ghost use Rattle.c2_base.specs.declared.values.Question.{Question as AnyQuestion};
 ghost use Rattle.c2_spec.specs.declared.digest.Alg.{Alg as AnyAlg};
 ghost use Rattle.c2_spec.specs.declared.panel.Verdict.{Verdict as AnyVerdict};
-ghost use Rattle.c2_compare_evidence.specs.Causes.{IsReadCause, IsUnjudged, IsWriteCause};
+ghost use Rattle.c2_compare_evidence.specs.Causes.{IsReadCauseBeside, IsUnjudged, IsReportCause};
 ghost use Rattle.c2_compare_opened.specs.Comparing.{IsComparedAs};
 ghost use Rattle.c2_compare_opened.specs.Settled.{compared_of};
 ghost use Rattle.c2_compare_opened.specs.Sides.{IsSided};
@@ -15,7 +15,7 @@ use crate::settling::{Settled, settle};
 use crate::sides::Sided;
 use c2_base::{Sink, Source};
 use c2_compare_evidence::CompareError;
-use c2_compare_spec::{Compared, a_first_difference_is_real};
+use c2_compare_spec::Compared;
 use c2_rules::Summary;
 use std::alloc::Global;
 
@@ -43,14 +43,12 @@ pub fn compare_stores<A: Source, B: Source, W: Sink>(
     // These hold of every source and every report.
     ensures errors { IfErr result IsUnjudged }
     ensures first { ReadsSource A.len A.known A.faults
-        (IsReadCause (B.faults second.old) (B.faults second.new)) first.old first.new result }
+        (IsReadCauseBeside (B.faults second.old) (B.faults second.new)) first.old first.new result }
     ensures second { ReadsSource B.len B.known B.faults
-        (IsReadCause (A.faults first.old) (A.faults first.new)) second.old second.new result }
-    ensures report { WritesSink W.written W.finished W.faults IsWriteCause report.old report.new
+        (IsReadCauseBeside (A.faults first.old) (A.faults first.new)) second.old second.new result }
+    ensures report { WritesSink W.written W.finished W.faults IsReportCause report.old report.new
         result }
 {
-    // Only the prover needs this law.
-    a_first_difference_is_real();
     match settle(alloc, first, one, second, two, report) {
         Ok(settled) => Ok(compared(settled, one.summary)),
         Err(error) => Err(error),

@@ -61,35 +61,43 @@ none_of false y z w e = refl
 
 -- the test of the labels of all entries
 abbrev pub entries_given : List Reading → ℕ → Reading → List Reading → ℕ → Reading → Bool
-entries_given rs n r ss m s = list_all (λ (e : Ref). option_map_or (gives_label rs n r ss m s) (entry_label r.manifest e) true) (entries_in r)
+entries_given rs n r ss m s =
+    list_all (λ (e : Ref). option_map_or (gives_label rs n r ss m s) (entry_label r.manifest e) true) (entries_in r)
 
 -- what was found out of two manifests holds at their places
-at_both : (rs ss : List Reading) (n m : ℕ) (l q : Reading) (b : Bool) → slice_get rs n ≡ Some l → slice_get ss m ≡ Some q
+at_both : (rs ss : List Reading) (n m : ℕ) (l q : Reading) (b : Bool) → slice_get rs n ≡ Some l
+    → slice_get ss m ≡ Some q
     → IfSome (slice_get rs n) (λ r. IfSome (slice_get ss m) (λ s. b ≡ alike rs n r ss m s)) → b ≡ alike rs n l ss m q
 at_both rs ss n m l q b at there h =
-    subst (λ o. IfSome o (λ s. b ≡ alike rs n l ss m s)) there (subst (λ o. IfSome o (λ r. IfSome (slice_get ss m) (λ s. b ≡ alike rs n r ss m s))) at h)
+    subst (λ o. IfSome o (λ s. b ≡ alike rs n l ss m s)) there
+    (subst (λ o. IfSome o (λ r. IfSome (slice_get ss m) (λ s. b ≡ alike rs n r ss m s))) at h)
 
 -- the entries decide where the manifests are alike
-pub gives_entries_at : (rs ss : List Reading) (n m : ℕ) (l q : Reading) (b t : Bool) → slice_get rs n ≡ Some l → slice_get ss m ≡ Some q
+pub gives_entries_at : (rs ss : List Reading) (n m : ℕ) (l q : Reading) (b t : Bool) → slice_get rs n ≡ Some l
+    → slice_get ss m ≡ Some q
     → IfSome (slice_get rs n) (λ r. IfSome (slice_get ss m) (λ s. b ≡ alike rs n r ss m s)) → b ≡ true
     → t ≡ entries_given rs n l ss m q → IfSome (slice_get rs n) (λ r. t ≡ gives_at rs n r ss m)
 gives_entries_at rs ss n m l q b t at there h yes' e =
     let known : alike rs n l ss m q ≡ true = sym (at_both rs ss n m l q b at there h) ∙ yes' in
     let here : t ≡ gives_at rs n l ss m =
-    e ∙ last_of (is_reached ss m) (bytes_eq (key_at ss m q) (key_at rs n l)) (are_equal (claim_bytes_of l) (claim_bytes_of q)) (entries_given rs n l ss m q) known
+    e
+    ∙ last_of (is_reached ss m) (bytes_eq (key_at ss m q) (key_at rs n l))
+    (are_equal (claim_bytes_of l) (claim_bytes_of q)) (entries_given rs n l ss m q) known
     ∙ ap (λ o. option_map_or (gives_all rs n l ss m) o false) (sym there) in
     subst (λ o. IfSome o (λ r. t ≡ gives_at rs n r ss m)) (sym at) here
 
 -- ---- a loop over the places of the second store
 
 -- this manifest gives all
-pub given_found : (o : Option Reading) (f : Reading → ℕ → Bool) (len i : ℕ) (b : Bool) → 0 < i → IfSome o (λ r. any_below (f r) len ≡ any_below (f r) i)
+pub given_found : (o : Option Reading) (f : Reading → ℕ → Bool) (len i : ℕ) (b : Bool) → 0 < i
+    → IfSome o (λ r. any_below (f r) len ≡ any_below (f r) i)
     → IfSome o (λ r. b ≡ f r (i - 1)) → b ≡ true → IfSome o (λ r. true ≡ any_below (f r) len)
 given_found None f len i b lt h k yes' = tt
 given_found (Some r) f len i b lt h k yes' = any_found (f r) len i lt h (sym yes' ∙ k)
 
--- it doesn't
-pub given_passed : (o : Option Reading) (f : Reading → ℕ → Bool) (len i : ℕ) (b : Bool) → 0 < i → IfSome o (λ r. any_below (f r) len ≡ any_below (f r) i)
+-- where this manifest doesn't give all, those before it are left
+pub given_passed : (o : Option Reading) (f : Reading → ℕ → Bool) (len i : ℕ) (b : Bool) → 0 < i
+    → IfSome o (λ r. any_below (f r) len ≡ any_below (f r) i)
     → IfSome o (λ r. b ≡ f r (i - 1)) → b ≡ false → IfSome o (λ r. any_below (f r) len ≡ any_below (f r) (i - 1))
 given_passed None f len i b lt h k no' = tt
 given_passed (Some r) f len i b lt h k no' = any_passed (f r) len i lt h (sym no' ∙ k)
@@ -102,14 +110,18 @@ none_past [] n lt e = omega (arith, lt)
 none_past (x ∷ xs) zero lt e = cc (e)
 none_past (x ∷ xs) (suc n) lt e = none_past xs n (omega (arith, lt)) e
 
--- it is missing where no other gives all that it has
-pub missing_here : (rs ss : List Reading) (n : ℕ) (reached given : Bool) → n < length rs → reached ≡ is_reached rs n → reached ≡ true
+-- a manifest is missing where no other gives all that it has
+pub missing_here : (rs ss : List Reading) (n : ℕ) (reached given : Bool) → n < length rs → reached ≡ is_reached rs n
+    → reached ≡ true
     → IfSome (slice_get rs n) (λ r. given ≡ any_below (gives_at rs n r ss) (length ss)) → not given ≡ is_missing rs ss n
 missing_here rs ss n reached given lt is yes' h = by (slice_get rs n) refl h
   where
-    by : (o : Option Reading) → slice_get rs n ≡ o → IfSome o (λ r. given ≡ any_below (gives_at rs n r ss) (length ss)) → not given ≡ is_missing rs ss n
+    by : (o : Option Reading) → slice_get rs n ≡ o → IfSome o (λ r. given ≡ any_below (gives_at rs n r ss) (length ss))
+        → not given ≡ is_missing rs ss n
     by None at k = absurd (none_past rs n lt at)
     by (Some r) at k =
         ap not k
         ∙ ap (λ o. not (option_map_or (λ (x : Reading). any_below (gives_at rs n x ss) (length ss)) o true)) (sym at)
-        ∙ ap (λ b. b && not (option_map_or (λ (x : Reading). any_below (gives_at rs n x ss) (length ss)) (slice_get rs n) true)) (sym yes' ∙ is)
+        ∙ ap
+        (λ b. b && not (option_map_or (λ (x : Reading). any_below (gives_at rs n x ss) (length ss)) (slice_get rs n) true))
+        (sym yes' ∙ is)

@@ -3,7 +3,6 @@ use Rattle.std.proofs.Common.{◌≡◌, inl, inr, ℕ, Bool, true, false, List,
 use Rattle.std.specs.List.{AllZip}
 use Rattle.c2_spec.specs.C2pa.Assertion.{ingredient_of}
 use Rattle.c2_spec.specs.C2pa.Claim.{claim_of}
-use Rattle.c2_spec.proofs.OneMessage.{OneItem}
 use Rattle.c2_spec.proofs.ClaimVersions.{says_version, one_claim_of}
 use Rattle.c2_spec.specs.C2pa.Manifest.{Manifest, claim_version_of}
 use Rattle.c2_spec.specs.C2pa.Uri.{PlainUri, uri_of}
@@ -21,39 +20,40 @@ use Rattle.c2_rules.specs.declared.parsed.Parsed.{Parsed}
 use Rattle.c2_rules.specs.declared.parsed.Parsed.TheVariants.{NoItem, NoForm, Value}
 use Rattle.c2_compare_spec.specs.ChainContent.{claim_bytes_of}
 use Rattle.c2_compare_spec.specs.Correspondence.{HaveSameClaim}
-use Rattle.c2_compare_spec.proofs.Lists.{one_of}
+use Rattle.c2_cbor_spec.proofs.PlainBack.{one_item as one_item_law}
+use Rattle.c2_lemmas.proofs.Options.{one_value}
 
 -- ---- items
 
 -- bytes are one item
-pub one_item : OneItem → (s : List ℕ) (v w : Item) → HasItem s v → HasItem s w → v ≡ w
-one_item law s v w p q = law v w s p.spelled q.spelled
+pub one_item : (s : List ℕ) (v w : Item) → HasItem s v → HasItem s w → v ≡ w
+one_item s v w p q = one_item_law v w s p.spelled q.spelled
 
 -- a refusal is no value
 no_value : {A E : Type 0} {P : Type 0} (r : Result A E) (x : A) → IsErr r → r ≡ Ok x → P
 no_value r x refused is = absurd (let both = sym (ap is_err is) ∙ refused in cc (both))
 
 -- a payload is read as one thing
-pub one_parsed : {A E : Type 0} → OneItem → (read : Item → Result A E) (o : Option (List ℕ)) (a b : Parsed A)
+pub one_parsed : {A E : Type 0} → (read : Item → Result A E) (o : Option (List ℕ)) (a b : Parsed A)
     → IsParsed read o a → IsParsed read o b → a ≡ b
-one_parsed law read None NoItem NoItem p q = refl
-one_parsed law read None NoItem NoForm p q = absurd q
-one_parsed law read None NoItem (Value y) p q = absurd q
-one_parsed law read None NoForm b p q = absurd p
-one_parsed law read None (Value x) b p q = absurd p
-one_parsed law read (Some s) NoItem NoItem p q = refl
-one_parsed law read (Some s) NoItem NoForm p q = absurd (p q.0 q.1)
-one_parsed law read (Some s) NoItem (Value y) p q = absurd (p q.0 q.1)
-one_parsed law read (Some s) NoForm NoItem p q = absurd (q p.0 p.1)
-one_parsed law read (Some s) NoForm NoForm p q = refl
-one_parsed law read (Some s) NoForm (Value y) p q =
-    no_value (read p.0) y p.2 (ap read (one_item law s p.0 q.0 p.1 q.1) ∙ q.2)
-one_parsed law read (Some s) (Value x) NoItem p q = absurd (q p.0 p.1)
-one_parsed law read (Some s) (Value x) NoForm p q =
-    no_value (read q.0) x q.2 (ap read (one_item law s q.0 p.0 q.1 p.1) ∙ p.2)
-one_parsed {A} {E} law read (Some s) (Value x) (Value y) p q =
+one_parsed read None NoItem NoItem p q = refl
+one_parsed read None NoItem NoForm p q = absurd q
+one_parsed read None NoItem (Value y) p q = absurd q
+one_parsed read None NoForm b p q = absurd p
+one_parsed read None (Value x) b p q = absurd p
+one_parsed read (Some s) NoItem NoItem p q = refl
+one_parsed read (Some s) NoItem NoForm p q = absurd (p q.0 q.1)
+one_parsed read (Some s) NoItem (Value y) p q = absurd (p q.0 q.1)
+one_parsed read (Some s) NoForm NoItem p q = absurd (q p.0 p.1)
+one_parsed read (Some s) NoForm NoForm p q = refl
+one_parsed read (Some s) NoForm (Value y) p q =
+    no_value (read p.0) y p.2 (ap read (one_item s p.0 q.0 p.1 q.1) ∙ q.2)
+one_parsed read (Some s) (Value x) NoItem p q = absurd (q p.0 p.1)
+one_parsed read (Some s) (Value x) NoForm p q =
+    no_value (read q.0) x q.2 (ap read (one_item s q.0 p.0 q.1 p.1) ∙ p.2)
+one_parsed {A} {E} read (Some s) (Value x) (Value y) p q =
     let both : ◌≡◌ {A = Result A E} (Ok x) (Ok y) =
-    sym p.2 ∙ ap read (one_item law s p.0 q.0 p.1 q.1) ∙ q.2 in
+    sym p.2 ∙ ap read (one_item s p.0 q.0 p.1 q.1) ∙ q.2 in
     let one : x ≡ y = cc (both) in
     ap Value one
 
@@ -94,26 +94,26 @@ version_is r h c is =
     says_version version x.item c x.is
 
 -- equal claim bytes are equal claims, since they are a claim under one version
-pub claims_alike : OneItem → (r s : Reading) → IsReading r.manifest r → IsReading s.manifest s
+pub claims_alike : (r s : Reading) → IsReading r.manifest r → IsReading s.manifest s
     → claim_bytes_of r ≡ claim_bytes_of s → (c d : Claim) → claim_in r ≡ Some c → claim_in s ≡ Some d
     → r.claim ≡ s.claim
-claims_alike law r s h k e c d is are =
+claims_alike r s h k e c d is are =
     let own = claim_version_of r.manifest.claims in
     let other = claim_version_of s.manifest.claims in
     let x = claim_item own (claim_bytes_of r) r.claim c h.claim is in
     let y = claim_item other (claim_bytes_of s) s.claim d k.claim are in
-    let bytes : x.bytes ≡ y.bytes = one_of (claim_bytes_of r) x.bytes y.bytes x.has_bytes (e ∙ y.has_bytes) in
+    let bytes : x.bytes ≡ y.bytes = one_value (claim_bytes_of r) x.bytes y.bytes x.has_bytes (e ∙ y.has_bytes) in
     let item : x.item ≡ y.item =
-    one_item law y.bytes x.item y.item (subst (λ b. HasItem b x.item) bytes x.has_item) y.has_item in
+    one_item y.bytes x.item y.item (subst (λ b. HasItem b x.item) bytes x.has_item) y.has_item in
     let same : c ≡ d = one_claim_of own other y.item c d (ap (claim_of own) (sym item) ∙ x.is) y.is in
     x.read ∙ ap Value same ∙ sym y.read
 
--- so two manifests with equal claim bytes have one claim
-pub same_claim : OneItem → (r s : Reading) → IsReading r.manifest r → IsReading s.manifest s
+-- two manifests with equal claim bytes have one claim
+pub same_claim : (r s : Reading) → IsReading r.manifest r → IsReading s.manifest s
     → claim_bytes_of r ≡ claim_bytes_of s → (c d : Claim) → claim_in r ≡ Some c → claim_in s ≡ Some d
     → HaveSameClaim r s
-same_claim law r s h k e c d is are =
-    let both : claim_in s ≡ Some c = sym (ap value_in (claims_alike law r s h k e c d is are)) ∙ is in
+same_claim r s h k e c d is are =
+    let both : claim_in s ≡ Some c = sym (ap value_in (claims_alike r s h k e c d is are)) ∙ is in
     record {
       claim = c;
       first = is;
@@ -144,20 +144,20 @@ box_reads r h b c =
     subst (λ x. IsReadBox x b) (sym z.2.same) z.2
 
 -- by whether the box is one of an ingredient
-same_ingredient : OneItem → (b c : ReadBox) (is : Bool)
+same_ingredient : (b c : ReadBox) (is : Bool)
     → MatchBool is (IsParsed (ingredient_of (box_version c.boxed)) c.boxed.item b.ingredient) (b.ingredient ≡ NoItem)
     → MatchBool is (IsParsed (ingredient_of (box_version c.boxed)) c.boxed.item c.ingredient) (c.ingredient ≡ NoItem)
     → b.ingredient ≡ c.ingredient
-same_ingredient law b c true p q =
-    one_parsed law (ingredient_of (box_version c.boxed)) c.boxed.item b.ingredient c.ingredient p q
-same_ingredient law b c false p q = p ∙ sym q
+same_ingredient b c true p q =
+    one_parsed (ingredient_of (box_version c.boxed)) c.boxed.item b.ingredient c.ingredient p q
+same_ingredient b c false p q = p ∙ sym q
 
 -- equal boxes are equal ingredients
-pub ingredients_alike : OneItem → (b c : ReadBox) → IsReadBox b.boxed b → IsReadBox c.boxed c
+pub ingredients_alike : (b c : ReadBox) → IsReadBox b.boxed b → IsReadBox c.boxed c
     → b.boxed ≡ c.boxed
     → b.ingredient ≡ c.ingredient
-ingredients_alike law b c p q e =
-    same_ingredient law b c (is_ingredient c.boxed) (subst (λ x. IsReadBox x b) e p).reads q.reads
+ingredients_alike b c p q e =
+    same_ingredient b c (is_ingredient c.boxed) (subst (λ x. IsReadBox x b) e p).reads q.reads
 
 -- ---- labels of entries
 
@@ -181,5 +181,5 @@ pub one_label : (m n : Manifest) (e : Ref) (k l : List ℕ) → entry_label m e 
 one_label m n e k l p q =
     let a = target_of m.label (uri_of e.url) k p in
     let b = target_of n.label (uri_of e.url) l q in
-    let same : a.0 ≡ b.0 = one_of (uri_of e.url) a.0 b.0 a.1 b.1 in
-    one_of (assertion_label a.0.target) k l a.2 (ap (λ (u : PlainUri). assertion_label u.target) same ∙ b.2)
+    let same : a.0 ≡ b.0 = one_value (uri_of e.url) a.0 b.0 a.1 b.1 in
+    one_value (assertion_label a.0.target) k l a.2 (ap (λ (u : PlainUri). assertion_label u.target) same ∙ b.2)

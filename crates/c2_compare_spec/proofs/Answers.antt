@@ -46,7 +46,7 @@ pub valid_accepted : (hash : Alg → List ℕ → List ℕ) (said : Question →
     → (s : StoreReading) × (h : IsAccepted hash said file s) × (given ≡ summary_in file s h.opened)
 valid_accepted hash said file given h = by_opening hash said file h.0 given h.1 h.2
 
--- and the other way round
+-- the check of an accepted file answers that it is valid
 pub accepted_valid : (hash : Alg → List ℕ → List ℕ) (said : Question → Verdict) (file : List ℕ)
     (s : StoreReading) (h : IsAccepted hash said file s)
     → IsAnswer hash said file (answer.Valid (summary_in file s h.opened))

@@ -171,7 +171,7 @@ picture_first : first_difference file other_picture ≡ Some picture_pair
 unfolding label_kind
 picture_first = refl
 
--- both differ: the note comes first
+-- both the notes and the pictures differ: the note comes first
 note_before_picture : first_difference file (store (noted label (codes "\"ba\"") ∷ []) swapped) ≡ Some
     note_pair
 unfolding label_kind
@@ -182,7 +182,7 @@ no_difference : first_difference file file ≡ None
 unfolding label_kind
 no_difference = refl
 
--- nor to one whose manifest has another label and other contents
+-- a file has no difference to one whose manifest has another label and other contents
 label_unseen : first_difference file
     (store (manifest (codes "n") (codes "other") (codes "claim") (codes "t")
     (codes "c2pa.hash.data" ∷ codes "test.note" ∷ []) []
@@ -207,7 +207,7 @@ note_text : evidence_text note_pair
 unfolding encode_with
 note_text = refl
 
--- those of the pictures
+-- the three lines of the pictures
 picture_text : evidence_text picture_pair
     ≡ codes "evidence digest sha256 covered\nffd8ffe000104a46494600010200000100010000ffd9\n"
     ++ codes "ffd8ffe000104a46494600020100000100010000ffd9\n"
@@ -264,7 +264,7 @@ claims_first : first_difference (redacting (codes "c") (codes "s")) (redacting (
 unfolding label_kind
 claims_first = refl
 
--- its four lines: the place, the signature box, and the claims
+-- the four lines of the claims' evidence: the place, the signature box, and the claims
 claims_text : evidence_text claims_pair ≡ codes
     "evidence signature self#jumbf=/c2pa/m/c2pa.signature\n73\n63\n64\n"
 unfolding encode_with
@@ -348,12 +348,12 @@ file_holds : failing file ≡ None
 unfolding label_kind
 file_holds = refl
 
--- so does the one with another note
+-- the rules of the file with another note hold
 other_note_holds : failing other_note ≡ None
 unfolding label_kind
 other_note_holds = refl
 
--- and the pair of their notes is real under that hash
+-- the pair of the notes of both files is real under the hash that gives one digest
 note_real : IsReal one_digest approve note_pair
 note_real = record {
   alg = Sha256;
@@ -369,7 +369,7 @@ redacting_holds : (failing (redacting (codes "c") (codes "s")) ≡ None) × (fai
 unfolding label_kind
 redacting_holds = (refl, refl)
 
--- their active claims are equal
+-- the active claims of the two stores with one signature box are equal
 redacting_claims : active_claim (redacting (codes "c") (codes "s")).readings ≡ active_claim
     (redacting (codes "d") (codes "s")).readings
 redacting_claims = refl
@@ -411,6 +411,6 @@ labels_same : has_same_content file.readings (manifest (codes "n") (codes "other
     (data_hash ∷ plain_box (codes "test.note") (note_contents (codes "\"ab\"")) ∷ []) ∷ []) ≡ true
 labels_same = refl
 
--- and differ where a note does
+-- chain contents differ where a note does
 notes_differ : has_same_content file.readings other_note.readings ≡ false
 notes_differ = refl

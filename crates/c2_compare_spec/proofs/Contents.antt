@@ -18,9 +18,10 @@ use Rattle.c2_compare_spec.specs.Evidence.{ListPair, do_differ}
 use Rattle.c2_spec.proofs.OneMessage.{OneItem}
 use Rattle.c2_compare_spec.proofs.Facts.{SeenAlike, StoreFacts, IsShown}
 use Rattle.c2_compare_spec.proofs.Links.{BothBoxes, contents_are, one_claim, one_entry, label_first, label_second, counterpart_is, both_boxes, box_shown}
-use Rattle.c2_compare_spec.proofs.Lists.{bool_cases, one_of, FoundBelow, found_downward, none_downward}
+use Rattle.c2_compare_spec.proofs.Lists.{bool_cases, FoundBelow, found_downward, none_downward}
 use Rattle.c2_compare_spec.proofs.Pairs.{FoundEntry, found_only, none_pair, found_entry, none_entry, found_reached, pairs_are}
 use Rattle.c2_compare_spec.proofs.Walk.{forth, back, redacted_alike}
+use Rattle.c2_lemmas.proofs.Options.{one_value}
 
 module _ (law : OneItem) (hash : Alg → List ℕ → List ℕ) (said : Question → Verdict) (rs ss : List Reading)
     (f : StoreFacts hash said rs)
@@ -106,7 +107,7 @@ module _ (law : OneItem) (hash : Alg → List ℕ → List ℕ) (said : Question
         ((reached_decides rs f.tree.differ h.place).0 h.has_key.reached) in
         let w = v.1 in
         let own : w.first ≡ h.manifest =
-        one_of (slice_get rs h.place) w.first h.manifest w.first_at h.has_key.at_place in
+        one_value (slice_get rs h.place) w.first h.manifest w.first_at h.has_key.at_place in
         record {
           place = v.0;
           manifest = w.second;
@@ -118,14 +119,14 @@ module _ (law : OneItem) (hash : Alg → List ℕ → List ℕ) (said : Question
           is = sym w.claims ∙ ap claim_bytes_of own ∙ h.is;
         }
 
-    -- and the other way round
+    -- a claim of the second chain content is one of the first
     claim_back : (key bytes : List ℕ) → GivesClaim ss key bytes → GivesClaim rs key bytes
     claim_back key bytes h =
         let v = back law hash said rs ss f g alike claims none h.place
         ((reached_decides ss g.tree.differ h.place).0 h.has_key.reached) in
         let w = v.1 in
         let own : w.second ≡ h.manifest =
-        one_of (slice_get ss h.place) w.second h.manifest w.second_at h.has_key.at_place in
+        one_value (slice_get ss h.place) w.second h.manifest w.second_at h.has_key.at_place in
         record {
           place = v.0;
           manifest = w.first;
@@ -145,7 +146,7 @@ module _ (law : OneItem) (hash : Alg → List ℕ → List ℕ) (said : Question
         ((reached_decides rs f.tree.differ h.place).0 h.has_key.reached) in
         let w = v.1 in
         let own : h.manifest ≡ w.first =
-        one_of (slice_get rs h.place) h.manifest w.first h.has_key.at_place w.first_at in
+        one_value (slice_get rs h.place) h.manifest w.first h.has_key.at_place w.first_at in
         let listed : Contains (entries_in w.first) h.entry =
         subst (λ (r : Reading). Contains (entries_in r) h.entry) own h.lists in
         let is_label : entry_label w.first.manifest h.entry ≡ Some label =
@@ -175,14 +176,14 @@ module _ (law : OneItem) (hash : Alg → List ℕ → List ℕ) (said : Question
               ∙ contents_are w.first label h.box found ∙ h.is;
         }
 
-    -- and the other way round
+    -- a box of the second chain content is one of the first
     box_back : (key label contents : List ℕ) → GivesBox ss key label contents → GivesBox rs key label contents
     box_back key label contents h =
         let v = back law hash said rs ss f g alike claims none h.place
         ((reached_decides ss g.tree.differ h.place).0 h.has_key.reached) in
         let w = v.1 in
         let own : h.manifest ≡ w.second =
-        one_of (slice_get ss h.place) h.manifest w.second h.has_key.at_place w.second_at in
+        one_value (slice_get ss h.place) h.manifest w.second h.has_key.at_place w.second_at in
         let listed' : Contains (entries_in w.second) h.entry =
         subst (λ (r : Reading). Contains (entries_in r) h.entry) own h.lists in
         let is_label' : entry_label w.second.manifest h.entry ≡ Some label =

@@ -21,13 +21,13 @@ use Rattle.c2_compare_spec.specs.Differences.{all_ingredients, all_unredacted, b
 use Rattle.c2_compare_spec.specs.Evidence.{do_differ}
 use Rattle.c2_compare_spec.specs.Lists.{IsListOf}
 use Rattle.c2_compare_spec.specs.Lists.IsListOf.{covered}
-use Rattle.c2_spec.proofs.OneMessage.{OneItem}
 use Rattle.c2_compare_spec.proofs.Alike.{one_item}
 use Rattle.c2_compare_spec.proofs.Facts.{SeenAlike, BindingFacts, FileFacts}
 use Rattle.c2_compare_spec.proofs.Links.{binding_stays, stays, one_alg, one_claim, label_second, one_entry, BothBoxes, both_boxes, box_same}
-use Rattle.c2_compare_spec.proofs.Lists.{one_of}
 use Rattle.c2_compare_spec.proofs.Walk.{root}
 use Rattle.c2_compare_spec.proofs.Contents.{kept_equal}
+use Rattle.c2_cbor_spec.proofs.PlainBack.{one_item as one_item_law}
+use Rattle.c2_lemmas.proofs.Options.{one_value}
 
 -- The covered texts of both files have one digest, by a known algorithm.
 pub record CoveredAlike (hash : Alg → List ℕ → List ℕ) (s t : StoreReading) : Type 0 where
@@ -41,20 +41,20 @@ pub record CoveredAlike (hash : Alg → List ℕ → List ℕ) (s t : StoreReadi
 text_is : (s : StoreReading) (v : Binding) → binding_value s.binding ≡ Some v → covered_text s ≡ v.text
 text_is s v e = ap (λ o. option_map_or (λ (b : Binding). b.text) o []) e
 
--- its algorithm is that which the binding has in the active manifest
+-- the algorithm of the covered text is that which the binding has in the active manifest
 alg_is : (s : StoreReading) (r : Reading) (v : Binding) → active_in s.readings ≡ Some r
     → binding_value s.binding ≡ Some v
     → covered_alg s ≡ alg_in r v.alg
 alg_is s r v at e = ap (λ o. binding_alg o (binding_value s.binding)) at ∙ ap (binding_alg (Some r)) e
 
 -- where no other pairs differ, the covered texts have one digest
-pub covered_alike : OneItem → (hash : Alg → List ℕ → List ℕ) (said : Question → Verdict) (s t : StoreReading)
+pub covered_alike : (hash : Alg → List ℕ → List ℕ) (said : Question → Verdict) (s t : StoreReading)
     → FileFacts hash said s → FileFacts hash said t
     → SeenAlike s.readings t.readings → active_claim s.readings ≡ active_claim t.readings
     → find do_differ (all_ingredients s.readings t.readings) ≡ None
     → find do_differ (all_unredacted s.readings t.readings) ≡ None
     → CoveredAlike hash s t
-covered_alike law hash said s t f g alike claims none same = record {
+covered_alike hash said s t f g alike claims none same = record {
   alg = a.alg;
   known = ap alg_named (alg_is s w.first a.value w.first_at a.is_value) ∙ a.known;
   same_digest =
@@ -71,7 +71,7 @@ covered_alike law hash said s t f g alike claims none same = record {
     ss = t.readings
 
     w : Correspond s.readings t.readings (length s.readings - 1) (length t.readings - 1)
-    w = root law hash said rs ss f.store g.store alike claims
+    w = root one_item_law hash said rs ss f.store g.store alike claims
 
     a : BindingFacts hash s w.first
     a =
@@ -88,17 +88,17 @@ covered_alike law hash said s t f g alike claims none same = record {
     -- the second manifest lists the same label
     listed : Contains (entries_in w.second) a.entry
     listed = one_entry w.first w.second a.entry
-        (one_claim law hash said rs ss f.store g.store alike (length rs - 1) (length ss - 1) w) a.lists
+        (one_claim one_item_law hash said rs ss f.store g.store alike (length rs - 1) (length ss - 1) w) a.lists
 
     is_label : entry_label w.second.manifest a.entry ≡ Some a.label
     is_label =
-        label_second law hash said rs ss f.store g.store alike (length rs - 1) (length ss - 1) w a.entry
+        label_second one_item_law hash said rs ss f.store g.store alike (length rs - 1) (length ss - 1) w a.entry
         a.label a.lists a.is_label
 
     label : a.label ≡ b.label
     label = b.only a.entry a.label listed is_label a.kind
 
-    -- its box is equal, and so is the item in it
+    -- the box of the binding's entry is equal in both files, and so is the item in it
     stays_first : is_redacted s.readings (length s.readings - 1) a.label ≡ false
     stays_first =
         stays hash said rs f.store (length rs - 1) a.label (binding_stays (label_kind a.label) a.kind)
@@ -108,31 +108,31 @@ covered_alike law hash said s t f g alike claims none same = record {
         stays hash said ss g.store (length ss - 1) a.label (binding_stays (label_kind a.label) a.kind)
 
     boxes : BothBoxes hash w.first w.second a.entry a.label
-    boxes = both_boxes law hash said rs ss f.store g.store alike (length rs - 1) (length ss - 1) w a.entry
+    boxes = both_boxes one_item_law hash said rs ss f.store g.store alike (length rs - 1) (length ss - 1) w a.entry
         a.label a.lists a.is_label stays_first stays_second
 
     equal : boxes.left.boxed ≡ boxes.right.boxed
     equal =
-        (box_same law hash said rs ss f.store g.store alike (length rs - 1) (length ss - 1) w a.entry a.label
+        (box_same one_item_law hash said rs ss f.store g.store alike (length rs - 1) (length ss - 1) w a.entry a.label
         boxes
-        (kept_equal law hash said rs ss f.store g.store alike claims none same (length rs - 1) (length ss - 1)
+        (kept_equal one_item_law hash said rs ss f.store g.store alike claims none same (length rs - 1) (length ss - 1)
         w a.entry a.label a.lists a.is_label stays_first)).0
 
     left : boxes.left ≡ a.box
-    left = one_of (box_with w.first a.label) boxes.left a.box boxes.left_is a.has_box
+    left = one_value (box_with w.first a.label) boxes.left a.box boxes.left_is a.has_box
 
     right : boxes.right ≡ b.box
-    right = one_of (box_with w.second a.label) boxes.right b.box boxes.right_is
+    right = one_value (box_with w.second a.label) boxes.right b.box boxes.right_is
         (ap (box_with w.second) label ∙ b.has_box)
 
     bytes : a.bytes ≡ b.bytes
     bytes =
-        one_of a.box.boxed.item a.bytes b.bytes a.has_bytes
+        one_value a.box.boxed.item a.bytes b.bytes a.has_bytes
         (ap (λ (x : ReadBox). x.boxed.item) (sym left) ∙ ap (λ (x : Superbox). x.item) equal
         ∙ ap (λ (x : ReadBox). x.boxed.item) right ∙ b.has_bytes)
 
     item : b.item ≡ a.item
-    item = one_item law a.bytes b.item a.item (subst (λ z. HasItem z b.item) (sym bytes) b.has_item)
+    item = one_item a.bytes b.item a.item (subst (λ z. HasItem z b.item) (sym bytes) b.has_item)
         a.has_item
 
     -- which names one algorithm and one digest
@@ -144,7 +144,7 @@ covered_alike law hash said s t f g alike claims none same = record {
 
     one : a.alg ≡ b.alg
     one =
-        one_of (alg_named (alg_in w.first a.value.alg)) a.alg b.alg a.known
+        one_value (alg_named (alg_in w.first a.value.alg)) a.alg b.alg a.known
         (ap (λ z. alg_named (alg_in w.first z)) values.0
         ∙ ap alg_named (one_alg w.first w.second b.value.alg
-        (one_claim law hash said rs ss f.store g.store alike (length rs - 1) (length ss - 1) w)) ∙ b.known)
+        (one_claim one_item_law hash said rs ss f.store g.store alike (length rs - 1) (length ss - 1) w)) ∙ b.known)

@@ -11,7 +11,7 @@ use Rattle.c2_spec.specs.declared.cbor.Ref.{Ref}
 use Rattle.c2_spec.specs.declared.digest.Alg.{Alg}
 use Rattle.c2_spec.specs.declared.panel.Verdict.{Verdict}
 use Rattle.c2_spec.proofs.GivenLabels.{given_is, is_given_back}
-use Rattle.c2_rules.proofs.ListLemmas.{contains_none, contains_head, contains_tail, contains_cons, from_any, in_any, from_passes, both_true, and_true, from_below, in_below}
+use Rattle.c2_rules.proofs.ListLemmas.{contains_none, contains_head, contains_tail, contains_cons, from_any, in_any, from_passes, from_below, in_below}
 use Rattle.c2_rules.specs.Chains.{label_in, entry_label, any_below, passes_some, is_active, is_reached, is_redacted}
 use Rattle.c2_rules.specs.Readings.{ReadBox, Reading, entries_in}
 use Rattle.c2_rules.specs.Rules.{box_with, lists_label}
@@ -19,14 +19,11 @@ use Rattle.c2_compare_spec.specs.ChainContent.{claim_bytes_of, key_at, HasKey, G
 use Rattle.c2_compare_spec.specs.Deciding.{are_equal, gives_box, gives_label, gives_all, gives_at, is_missing, is_within, has_same_content}
 use Rattle.c2_compare_spec.proofs.Facts.{TreeFacts, IsApproved, StoreFacts}
 use Rattle.c2_compare_spec.proofs.Links.{entry_box}
-use Rattle.c2_compare_spec.proofs.Lists.{bool_cases, never, one_of}
+use Rattle.c2_compare_spec.proofs.Lists.{bool_cases}
+use Rattle.c2_lemmas.proofs.Bools.{and_true, both_true, not_true_is_false, true_and_false}
+use Rattle.c2_lemmas.proofs.Options.{one_value}
 
 -- ---- conditions
-
--- what isn't refused is false
-refused_is : (b : Bool) → not b ≡ true → b ≡ false
-refused_is true e = absurd (cc (e))
-refused_is false e = refl
 
 -- where the first of two doesn't hold, the second does
 second_holds : (a b : Bool) → a ≡ false → (a || b) ≡ true → b ≡ true
@@ -63,9 +60,9 @@ equal_says : (a b : Option (List ℕ)) (bytes : List ℕ) → are_equal a b ≡ 
 equal_says a b bytes t e =
     let x = from_passes (λ (x : List ℕ). passes_some (bytes_eq x) b) a t in
     let y = from_passes (bytes_eq x.0) b x.2 in
-    y.1 ∙ ap Some (sym ((bytes_eq-Decides x.0 y.0).0 y.2) ∙ one_of a x.0 bytes x.1 e)
+    y.1 ∙ ap Some (sym ((bytes_eq-Decides x.0 y.0).0 y.2) ∙ one_value a x.0 bytes x.1 e)
 
--- and the other way round
+-- lists that are there and equal pass the test
 says_equal : (a b : Option (List ℕ)) (bytes : List ℕ) → a ≡ Some bytes → b ≡ Some bytes → are_equal a b ≡ true
 says_equal a b bytes p q =
     ap (λ x. are_equal x b) p ∙ ap (are_equal (Some bytes)) q ∙ (bytes_eq-Decides bytes bytes).1 refl
@@ -145,9 +142,9 @@ given rs ss t n r at reached =
     none_missing =
         elim (bool_cases (is_missing rs ss n)) [
           | inl missing ↦
-              never (any_below (is_missing rs ss) (length rs))
+              true_and_false (any_below (is_missing rs ss) (length rs))
               (in_below (is_missing rs ss) (length rs) n (slice_get_within rs n r at) missing)
-              (refused_is (any_below (is_missing rs ss) (length rs)) t)
+              (not_true_is_false (any_below (is_missing rs ss) (length rs)) t)
           | inr none ↦ none
         ]
 
@@ -160,9 +157,9 @@ given rs ss t n r at reached =
         true)) reached
         (ap (λ o. not (option_map_or (λ (x : Reading). any_below (gives_at rs n x ss) (length ss)) o true)) at
         ∙ ap not e) in
-        never (is_missing rs ss n) missing none_missing
+        true_and_false (is_missing rs ss n) missing none_missing
 
--- its claims are those of the second
+-- the claims of a chain content that is within another are claims of that
 claim_within : (rs ss : List Reading) → is_within rs ss ≡ true → (key bytes : List ℕ)
     → GivesClaim rs key bytes → GivesClaim ss key bytes
 claim_within rs ss t key bytes h =
@@ -174,7 +171,7 @@ claim_within rs ss t key bytes h =
       is = equal_says (claim_bytes_of h.manifest) (claim_bytes_of x.other) bytes x.claims h.is;
     }
 
--- and so are its boxes
+-- the boxes of a chain content that is within another are boxes of that
 box_within : (rs ss : List Reading) → is_within rs ss ≡ true → (key label contents : List ℕ)
     → GivesBox rs key label contents → GivesBox ss key label contents
 box_within rs ss t key label contents h =
@@ -209,7 +206,7 @@ box_within rs ss t key label contents h =
       entry = e.0;
       lists = e.1;
       is_label = given_is (entry_label x.other.manifest e.0) label e.2;
-      unredacted = refused_is (is_redacted ss x.place label) a.0;
+      unredacted = not_true_is_false (is_redacted ss x.place label) a.0;
       box = c.0;
       has_box = c.1;
       is = (bytes_eq-Decides c.0.boxed.contents h.box.boxed.contents).0 c.2 ∙ h.is;
@@ -251,7 +248,7 @@ module _ (hash : Alg → List ℕ → List ℕ) (said : Question → Verdict) (r
           let h = boxes (key_at rs n r) label x.2.box.boxed.contents own in
           let place : h.place ≡ m = one_key ss g.tree (key_at rs n r) h.place m h.manifest s h.has_key key in
           let same : h.manifest ≡ s =
-          one_of (slice_get ss m) h.manifest s (ap (slice_get ss) (sym place) ∙ h.has_key.at_place)
+          one_value (slice_get ss m) h.manifest s (ap (slice_get ss) (sym place) ∙ h.has_key.at_place)
           key.at_place in
           let kept' : not (is_redacted ss m label) ≡ true =
           ap (λ k. not (is_redacted ss k label)) (sym place) ∙ ap not h.unredacted in
@@ -298,7 +295,7 @@ module _ (hash : Alg → List ℕ → List ℕ) (said : Question → Verdict) (r
       (slice_get_within ss h.place h.manifest h.has_key.at_place)
       (ap (λ o. option_map_or (gives_all rs n r ss h.place) o false) h.has_key.at_place ∙ all)
 
-  -- so none is missing
+  -- no reached manifest is missing
   within : is_within rs ss ≡ true
   within =
       elim (bool_cases (any_below (is_missing rs ss) (length rs))) [
@@ -320,8 +317,8 @@ module _ (hash : Alg → List ℕ → List ℕ) (said : Question → Verdict) (r
               true) ≡ true → ⊥
           by n reached None at e = cc (e)
           by n reached (Some r) at e =
-              never (any_below (gives_at rs n r ss) (length ss)) (not_missing n r at reached)
-              (refused_is (any_below (gives_at rs n r ss) (length ss)) e)
+              true_and_false (any_below (gives_at rs n r ss) (length ss)) (not_missing n r at reached)
+              (not_true_is_false (any_below (gives_at rs n r ss) (length ss)) e)
 
 -- for stores of accepted files the test decides
 pub test_decides : (hash : Alg → List ℕ → List ℕ) (said : Question → Verdict) (rs ss : List Reading)

@@ -54,15 +54,16 @@ alike hash said first second s t h =
     (stored second t h.second_accepted.opened)
 
 -- equal claim bytes of reached manifests are one claim
-pub accepted_claims : OneItem → (hash : Alg → List ℕ → List ℕ) (said : Question → Verdict) (first second : List ℕ)
+pub accepted_claims : (hash : Alg → List ℕ → List ℕ) (said : Question → Verdict) (first second : List ℕ)
     (s t : StoreReading) → IsAccepted hash said first s → IsAccepted hash said second t → (n m : ℕ) (r q : Reading)
     → IsReachedAt s.readings n r → IsReachedAt t.readings m q → claim_bytes_of r ≡ claim_bytes_of q → HaveSameClaim r q
-accepted_claims law hash said first second s t h k n m r q at there e =
+accepted_claims hash said first second s t h k n m r q at there e =
     let f = (facts hash said first s h).store in
     let g = (facts hash said second t k).store in
     let a = (f.manifests n r at.at_place at.reached).approved in
     let b = (g.manifests m q there.at_place there.reached).approved in
-    same_claim law r q (f.tree.reads n r at.at_place) (g.tree.reads m q there.at_place) e a.claim b.claim a.has_claim b.has_claim
+    same_claim r q (f.tree.reads n r at.at_place) (g.tree.reads m q there.at_place) e a.claim b.claim a.has_claim
+    b.has_claim
 
 -- ---- the laws
 
@@ -73,7 +74,7 @@ module _ (law : OneItem) (hash : Alg → List ℕ → List ℕ) (said : Question
   own : FileFacts hash said s
   own = facts hash said first s h.first_accepted
 
-  -- of the second
+  -- the facts of the second file
   other : FileFacts hash said t
   other = facts hash said second t h.second_accepted
 
@@ -87,13 +88,13 @@ module _ (law : OneItem) (hash : Alg → List ℕ → List ℕ) (said : Question
       → (i : ℕ) × Correspond s.readings t.readings j i × IsChild t.readings m i
   step_of = step law hash said s.readings t.readings own.store other.store both
 
-  -- and back
+  -- a child in the second file corresponds to one in the first
   pub step_back_of : (n m : ℕ) → Correspond s.readings t.readings n m
       → find do_differ (ingredients_at s.readings t.readings n) ≡ None → (i : ℕ) → IsChild t.readings m i
       → (j : ℕ) × Correspond s.readings t.readings j i × IsChild s.readings n j
   step_back_of = step_back law hash said s.readings t.readings own.store other.store both
 
-  -- or evidence
+  -- a difference of ingredients is real
   pub ingredients_real_of : (n m : ℕ) → Correspond s.readings t.readings n m → (p : ListPair)
       → find do_differ (ingredients_at s.readings t.readings n) ≡ Some p → IsReal hash said p
   ingredients_real_of n m w p found =
@@ -103,12 +104,12 @@ module _ (law : OneItem) (hash : Alg → List ℕ → List ℕ) (said : Question
   pub root_of : Correspond s.readings t.readings (length s.readings - 1) (length t.readings - 1)
   root_of = root law hash said s.readings t.readings own.store other.store both h.claims
 
-  -- and all that are reached in the first file
+  -- all manifests that are reached in the first file correspond to some of the second
   pub forth_of : find do_differ (all_ingredients s.readings t.readings) ≡ None → (n : ℕ) → Reached s.readings n
       → (m : ℕ) × Correspond s.readings t.readings n m
   forth_of = forth law hash said s.readings t.readings own.store other.store both h.claims
 
-  -- and in the second
+  -- all manifests that are reached in the second file correspond to some of the first
   pub back_of : find do_differ (all_ingredients s.readings t.readings) ≡ None → (m : ℕ) → Reached t.readings m
       → (n : ℕ) × Correspond s.readings t.readings n m
   back_of = back law hash said s.readings t.readings own.store other.store both h.claims
@@ -147,7 +148,7 @@ module _ (law : OneItem) (hash : Alg → List ℕ → List ℕ) (said : Question
                   kept)
               | inr last ↦
                   let covered = found_only (covered_pair s t) p last.1 in
-                  let c = covered_alike law hash said s t own other both h.claims rest.0 last.0 in
+                  let c = covered_alike hash said s t own other both h.claims rest.0 last.0 in
                   subst IsFirst covered.0
                   (record {
                     real = record {
@@ -167,7 +168,7 @@ module _ (law : OneItem) (hash : Alg → List ℕ → List ℕ) (said : Question
   pub difference_is_real : (p : ListPair) → first_difference s t ≡ Some p → IsReal hash said p
   difference_is_real p found = (first_is p found).real
 
-  -- its lists are lists of both files
+  -- the lists of the first difference are lists of both files
   pub lists_are_theirs : (p : ListPair) → first_difference s t ≡ Some p
       → IsListOf s p.left × IsListOf t p.right
   lists_are_theirs p found = let x = first_is p found in (x.left, x.right)

@@ -1,6 +1,6 @@
 -- Conditions that all hold: those of a part of a list, of one thing, of one place; and what a condition that
 -- holds says.
-use Rattle.std.proofs.Common.{◌≡◌, inl, inr, ℕ, zero, suc, ◌+◌, ◌<◌, Bool, true, false, not, ◌&&◌, ◌||◌, List, [], ◌∷◌, ◌++◌, Option, Some, None, Contains, is_some, is_none, refl, sym, ap, ◌∙◌, subst, arith}
+use Rattle.std.proofs.Common.{◌≡◌, inl, inr, ℕ, zero, suc, ◌+◌, ◌<◌, Bool, true, false, ◌&&◌, ◌||◌, List, [], ◌∷◌, ◌++◌, Option, Some, None, Contains, is_some, is_none, refl, sym, ap, ◌∙◌, subst, arith}
 use Rattle.std.proofs.lemmas.Bool.{cases_eq}
 use Rattle.c2_rules.proofs.ListLemmas.{contains_none, contains_cons}
 use Rattle.c2_rules.specs.Tests.{Test, each, over_all, downward, AllHold}
@@ -9,7 +9,7 @@ use Rattle.c2_rules.specs.Tests.{Test, each, over_all, downward, AllHold}
 pub hold_head : (t : Test) (ts : List Test) → AllHold (t ∷ ts) → t.fails ≡ false
 hold_head t ts h = h 0 t refl
 
--- the others hold
+-- where all conditions hold, those behind the first hold
 pub hold_tail : (t : Test) (ts : List Test) → AllHold (t ∷ ts) → AllHold ts
 hold_tail t ts h = λ i u e. h (suc i) u e
 
@@ -18,18 +18,18 @@ hold_more : (t : Test) (ts : List Test) → t.fails ≡ false → AllHold ts →
 hold_more t ts first rest zero u e = let same : t ≡ u = cc in ap (λ (x : Test). x.fails) (sym same) ∙ first
 hold_more t ts first rest (suc i) u e = rest i u e
 
--- those of the first list hold
+-- where the conditions of two lists in a row hold, those of the first hold
 pub hold_front : (xs ys : List Test) → AllHold (xs ++ ys) → AllHold xs
 hold_front [] ys h = λ i u e. absurd cc
 hold_front (x ∷ xs) ys h =
     hold_more x xs (hold_head x (xs ++ ys) h) (hold_front xs ys (hold_tail x (xs ++ ys) h))
 
--- those of the second list hold
+-- where the conditions of two lists in a row hold, those of the second hold
 pub hold_back : (xs ys : List Test) → AllHold (xs ++ ys) → AllHold ys
 hold_back [] ys h = h
 hold_back (x ∷ xs) ys h = hold_back xs ys (hold_tail x (xs ++ ys) h)
 
--- those of one thing hold, which has some place
+-- where the conditions of all things hold, those of one thing hold, which has some place
 pub hold_each : {X : Type 0} (tests : ℕ → X → List Test) (k : ℕ) (xs : List X) → AllHold (each tests k xs)
     → (x : X) → Contains xs x → (i : ℕ) × AllHold (tests i x)
 hold_each tests k [] h x c = absurd (contains_none x c)
@@ -58,7 +58,7 @@ hold_over test_of k (y ∷ ys) h x c =
           hold_over test_of (k + 1) ys (hold_tail (test_of k y) (over_all test_of (k + 1) ys) h) x rest
     ]
 
--- those of one place hold
+-- where the conditions of all places hold, those of one place hold
 pub hold_place : (tests_at : ℕ → List Test) (n k : ℕ) → AllHold (downward tests_at n) → k < n
     → AllHold (tests_at k)
 hold_place tests_at zero k h lt = absurd (omega arith)
@@ -71,17 +71,12 @@ hold_place tests_at (suc n) k h lt =
 
 -- ---- what a condition that holds says
 
--- what isn't refused holds
-pub holds : (b : Bool) → not b ≡ false → b ≡ true
-holds true e = refl
-holds false e = absurd cc
-
 -- a value that isn't missing is there
 pub there : {X : Type 0} (o : Option X) → is_none o ≡ false → (x : X) × (o ≡ Some x)
 there None e = absurd cc
 there (Some x) e = (x, refl)
 
--- the same by the other test
+-- a value is there whose test says so
 pub there_too : {X : Type 0} (o : Option X) → is_some o ≡ true → (x : X) × (o ≡ Some x)
 there_too None e = absurd cc
 there_too (Some x) e = (x, refl)
@@ -91,7 +86,7 @@ pub second_fails : (a b : Bool) → a ≡ true → (a && b) ≡ false → b ≡ 
 second_fails true b t e = e
 second_fails false b t e = absurd cc
 
--- nor the first where the second is
+-- of two that aren't both true, the first isn't where the second is
 pub first_fails : (a b : Bool) → b ≡ true → (a && b) ≡ false → a ≡ false
 first_fails true b t e = absurd (let bad = sym t ∙ e in cc (bad))
 first_fails false b t e = refl
@@ -101,7 +96,7 @@ pub neither_first : (a b : Bool) → (a || b) ≡ false → a ≡ false
 neither_first true b e = absurd cc
 neither_first false b e = refl
 
--- and the second isn't
+-- where neither of two is true, the second isn't
 pub neither_second : (a b : Bool) → (a || b) ≡ false → b ≡ false
 neither_second true b e = absurd cc
 neither_second false b e = e

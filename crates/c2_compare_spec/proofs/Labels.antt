@@ -6,6 +6,7 @@ use Rattle.c2_spec.specs.Jumbf.Tree.{Tree, IsLegalTree, IsNewLabel, AreDistinctL
 use Rattle.c2_spec.specs.Jumbf.Boxes.{tree_count, child_indices}
 use Rattle.c2_spec.specs.C2pa.Manifest.{is_superbox, superboxes, inside}
 use Rattle.c2_spec.proofs.JumbfChildren.{label_at, distinct_children}
+use Rattle.c2_spec.proofs.Openings.{new_filtered}
 
 -- Members of a list at two places have one label only where the places are one.
 abbrev pub AreApart : (ℕ → Option (List ℕ)) → List ℕ → Type 0
@@ -36,24 +37,6 @@ apart f (x ∷ xs) h (suc p) zero i j label at_p at_q e g =
 apart f (x ∷ xs) h (suc p) (suc q) i j label at_p at_q e g =
     ap suc (apart f xs h.1 p q i j label at_p at_q e g)
 
--- a label that is new to a list is new to what is kept of it
-new_filtered : (f : ℕ → Option (List ℕ)) (d : ℕ → Bool) (o : Option (List ℕ)) (xs : List ℕ)
-    → IsNewLabel o (map f xs)
-    → IsNewLabel o (map f (filter d xs))
-new_filtered f d None xs h = tt
-new_filtered f d (Some t) xs h = by xs h
-  where
-    more : (y : ℕ) (ys : List ℕ) (b : Bool) → f y ≢ Some t
-        → AllByRecursion (λ x. x ≢ Some t) (map f (filter d ys))
-        → AllByRecursion (λ x. x ≢ Some t) (map f (cond b (y ∷ filter d ys) (filter d ys)))
-    more y ys true own rest = (own, rest)
-    more y ys false own rest = rest
-
-    by : (ys : List ℕ) → AllByRecursion (λ x. x ≢ Some t) (map f ys)
-        → AllByRecursion (λ x. x ≢ Some t) (map f (filter d ys))
-    by [] g = tt
-    by (y ∷ ys) g = more y ys (d y) g.0 (by ys g.1)
-
 -- by whether the first is kept
 distinct_more : (f : ℕ → Option (List ℕ)) (x : ℕ) (ys : List ℕ) (b : Bool) → IsNewLabel (f x) (map f ys)
     → AreDistinctLabels (map f ys)
@@ -75,7 +58,7 @@ superboxes_apart t i legal lt =
     apart (label_at t) (superboxes t i)
     (distinct_filtered (label_at t) (is_superbox t) (child_indices t i) (distinct_children t i lt legal))
 
--- and so are those of a box that may be missing
+-- the superboxes of a box of a legal tree that may be missing are apart
 pub inside_apart : (t : Tree) (o : Option ℕ) → IsLegalTree 1 t → ((i : ℕ) → o ≡ Some i → i < tree_count t)
     → AreApart (label_at t) (inside t o)
 inside_apart t None legal lt = λ p q i j label at_p at_q e g. absurd (cc (at_p))

@@ -1,24 +1,25 @@
-mod Lists
-mod Holding
 mod Alike
-mod Trees
-mod Labels
-mod Facts
-mod Stored
-mod Valid
-mod ValidBinding
-mod Pairs
-mod Links
-mod Steps
-mod Walk
+mod Answers
+mod BindingRows
 mod Contents
 mod Covered
-mod Files
-mod Answers
-mod OneStore
-mod OneComparison
-mod BindingRows
 mod Decided
 mod EachComparison
+mod Facts
+mod Files
+mod Holding
+mod Labels
+mod Links
+mod Lists
+mod OneComparison
+mod OneStore
+mod Pairs
 pub mod Places
+mod Steps
+mod Stored
+pub mod TheLaws
+mod Trees
 pub mod Unwritten
+mod Valid
+mod ValidBinding
+mod Walk

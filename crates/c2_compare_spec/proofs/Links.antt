@@ -32,8 +32,11 @@ use Rattle.c2_compare_spec.specs.Lists.IsListIn.{of_box, of_signature, of_claim,
 use Rattle.c2_compare_spec.proofs.Alike.{claims_alike, box_reads, ingredients_alike, one_label}
 use Rattle.c2_spec.proofs.OneMessage.{OneItem, same_message}
 use Rattle.c2_compare_spec.proofs.Facts.{SeenAlike, IsApproved, HasBox, is_unredactable, BySignature, ByContents, Binds, NamedFact, StoreFacts, IsShown}
-use Rattle.c2_compare_spec.proofs.Lists.{bool_cases, one_of, never, find_says, find_only, in_front, front_at}
+use Rattle.c2_compare_spec.proofs.Lists.{bool_cases, find_says, find_only, in_front}
 use Rattle.c2_compare_spec.proofs.Pairs.{found_pair, found_only, none_pair}
+use Rattle.c2_lemmas.proofs.Bools.{true_and_false}
+use Rattle.c2_lemmas.proofs.Lists.{get_in_front}
+use Rattle.c2_lemmas.proofs.Options.{one_value}
 
 -- ---- kinds
 
@@ -48,7 +51,7 @@ ingredient_stays kinds.Actions e = absurd cc
 ingredient_stays kinds.Cloud e = absurd cc
 ingredient_stays kinds.Ordinary e = absurd cc
 
--- nor a binding
+-- no claim may redact a binding
 pub binding_stays : (kind : Kind) → is_binding kind ≡ true → is_unredactable kind ≡ true
 binding_stays kinds.DataHash e = refl
 binding_stays kinds.BmffHash e = refl
@@ -67,12 +70,12 @@ pub box_says : (r : Reading) (label : List ℕ) (b : ReadBox) → box_with r lab
 box_says r label b e = let f =
     find_says (is_labelled label) r.boxes b e in (f.0, given_is b.boxed.label label f.1)
 
--- its contents are those with the label
+-- the contents of the box that is found by a label are those with the label
 pub contents_are : (r : Reading) (label : List ℕ) (b : ReadBox) → box_with r label ≡ Some b
     → contents_with r label ≡ b.boxed.contents
 contents_are r label b e = ap (λ o. option_map_or (λ (x : ReadBox). x.boxed.contents) o []) e
 
--- its ingredient is that with the label
+-- the ingredient of the box that is found by a label is that with the label
 pub ingredient_is : (r : Reading) (label : List ℕ) (b : ReadBox) → box_with r label ≡ Some b
     → ingredient_with r label ≡ value_in b.ingredient
 ingredient_is r label b e = ap (option_and_then (λ (x : ReadBox). value_in x.ingredient)) e
@@ -91,7 +94,7 @@ module _ (hash : Alg → List ℕ → List ℕ) (said : Question → Verdict) (r
             let facts =
             f.manifests r.place r.redactor r.at_place
             ((reached_decides rs f.tree.differ r.place).1 r.reached) in
-            never (is_unredactable (label_kind label)) kind
+            true_and_false (is_unredactable (label_kind label)) kind
             (facts.redactions r.text r.lists (label_in r.target) label r.names)
         | inr kept ↦ kept
       ]
@@ -102,7 +105,7 @@ module _ (hash : Alg → List ℕ → List ℕ) (said : Question → Verdict) (r
       → other_named rs label ≡ Some r
   label_leads n r label at is lt =
       find_only (λ (x : Reading). bytes_eq (label_in x) label) (take (length rs - 1) rs) n r
-      (front_at rs (length rs - 1) n (omega arith) ∙ at)
+      (get_in_front rs (length rs - 1) n (omega arith) ∙ at)
       ((bytes_eq-Decides (label_in r) label).1 is)
       (λ j y there t. f.tree.differ j n y r (in_front rs (length rs - 1) j y there) at
       ((bytes_eq-Decides (label_in y) label).0 t ∙ sym is))
@@ -114,7 +117,7 @@ module _ (hash : Alg → List ℕ → List ℕ) (said : Question → Verdict) (r
       → (alg : Alg) × (alg_named (alg_in r e.alg) ≡ Some alg) × HasBox hash alg r label e.hash
   entry_box n r e label at reached listed is kept =
       let x = (f.manifests n r at reached).entries e listed in
-      let same : x.label ≡ label = one_of (entry_label r.manifest e) x.label label x.is_label is in (
+      let same : x.label ≡ label = one_value (entry_label r.manifest e) x.label label x.is_label is in (
         x.alg,
         x.known,
         subst (λ l. HasBox hash x.alg r l e.hash) same
@@ -147,11 +150,11 @@ pub record BothBoxes (hash : Alg → List ℕ → List ℕ) (r s : Reading) (e :
   pub right_is : box_with s label ≡ Some right
   pub same_digest : hash alg left.boxed.contents ≡ hash alg right.boxed.contents
 
--- they have one algorithm for what names none
+-- two manifests with one claim have one algorithm for what names none
 pub one_alg : (r s : Reading) (own : Option (List ℕ)) → r.claim ≡ s.claim → alg_in r own ≡ alg_in s own
 one_alg r s own e = ap (λ c. alg_or own (claim_alg (value_in c))) e
 
--- and the same entries
+-- two manifests with one claim have the same entries
 pub one_entry : (r s : Reading) (e : Ref) → r.claim ≡ s.claim → Contains (entries_in r) e
     → Contains (entries_in s) e
 one_entry r s e claim listed = subst (λ c. Contains (entries_of (value_in c)) e) claim listed
@@ -166,7 +169,7 @@ module _ (law : OneItem) (hash : Alg → List ℕ → List ℕ) (said : Question
   one_claim n m w =
       let p = (f.manifests n w.first w.first_at w.first_reached).approved in
       let q = (g.manifests m w.second w.second_at w.second_reached).approved in
-      claims_alike law w.first w.second (f.tree.reads n w.first w.first_at)
+      claims_alike w.first w.second (f.tree.reads n w.first w.first_at)
       (g.tree.reads m w.second w.second_at) w.claims p.claim q.claim p.has_claim q.has_claim
 
   -- an entry lists the label in the second that it lists in the first
@@ -178,7 +181,7 @@ module _ (law : OneItem) (hash : Alg → List ℕ → List ℕ) (said : Question
       (one_entry w.first w.second e (one_claim n m w) listed) in
       x.is_label ∙ ap Some (one_label w.second.manifest w.first.manifest e x.label label x.is_label is)
 
-  -- and the other way round
+  -- an entry lists the label in the first manifest that it lists in the second
   pub label_first : (n m : ℕ) (w : Correspond rs ss n m) (e : Ref) (label : List ℕ)
       → Contains (entries_in w.second) e
       → entry_label w.second.manifest e ≡ Some label → entry_label w.first.manifest e ≡ Some label
@@ -199,7 +202,7 @@ module _ (law : OneItem) (hash : Alg → List ℕ → List ℕ) (said : Question
         | inr other ↦
             let within : m < length ss = slice_get_within ss m w.second w.second_at in
             let not_last : m + 1 ≢ length ss =
-            λ e. never (is_active ss m) ((Decides-eqb (m + 1) (length ss)).1 e) (sym w.active ∙ other) in
+            λ e. true_and_false (is_active ss m) ((Decides-eqb (m + 1) (length ss)).1 e) (sym w.active ∙ other) in
             ap (λ b. cond b (active_in ss) (other_named ss (label_in w.first))) other
             ∙ label_leads hash said ss g m w.second (label_in w.first) w.second_at (sym (w.label other))
             (omega (arith, within, not_last))
@@ -217,7 +220,7 @@ module _ (law : OneItem) (hash : Alg → List ℕ → List ℕ) (said : Question
       let b = entry_box hash said ss g m w.second e label w.second_at w.second_reached
       (one_entry w.first w.second e claim listed) (label_second n m w e label listed is) kept' in
       let one : a.0 ≡ b.0 =
-      one_of (alg_named (alg_in w.first e.alg)) a.0 b.0 a.1
+      one_value (alg_named (alg_in w.first e.alg)) a.0 b.0 a.1
       (ap alg_named (one_alg w.first w.second e.alg claim) ∙ b.1) in
       record {
         alg = a.0;
@@ -229,7 +232,7 @@ module _ (law : OneItem) (hash : Alg → List ℕ → List ℕ) (said : Question
         same_digest = a.2.digested ∙ sym b.2.digested ∙ ap (λ x. hash x b.2.box.boxed.contents) (sym one);
       }
 
-  -- where they differ, that is real evidence
+  -- where the boxes of an entry differ, that is real evidence
   pub box_real : (n m : ℕ) (w : Correspond rs ss n m) (e : Ref) (label : List ℕ)
       → BothBoxes hash w.first w.second e label
       → (box_pair w.first w.second e label).left ≢ (box_pair w.first w.second e label).right
@@ -243,7 +246,7 @@ module _ (law : OneItem) (hash : Alg → List ℕ → List ℕ) (said : Question
         ∙ ap (hash h.alg) (sym (contents_are w.second label h.right h.right_is));
   }
 
-  -- and the lists are those of the boxes
+  -- where the lists of two boxes differ, they are lists of both stores
   pub box_shown : (n m : ℕ) (w : Correspond rs ss n m) (e : Ref) (label : List ℕ)
       → BothBoxes hash w.first w.second e label
       → (box_pair w.first w.second e label).left ≢ (box_pair w.first w.second e label).right
@@ -261,7 +264,7 @@ module _ (law : OneItem) (hash : Alg → List ℕ → List ℕ) (said : Question
             (of_box m w.second b h.right (box_says w.second label h.right h.right_is).0);
       }
 
-  -- where they are equal, they are equal boxes and equal ingredients
+  -- where the lists of an entry's boxes are equal, the boxes are and their ingredients
   pub box_same : (n m : ℕ) (w : Correspond rs ss n m) (e : Ref) (label : List ℕ)
       (h : BothBoxes hash w.first w.second e label)
       → (box_pair w.first w.second e label).left ≡ (box_pair w.first w.second e label).right
@@ -276,7 +279,7 @@ module _ (law : OneItem) (hash : Alg → List ℕ → List ℕ) (said : Question
       alike.boxes n m w.first w.second w.first_at w.second_at h.left h.right in_first.0 in_second.0
       contents in (
         box,
-        ingredients_alike law h.left h.right
+        ingredients_alike h.left h.right
             (box_reads w.first (f.tree.reads n w.first w.first_at) h.left in_first.0)
             (box_reads w.second (g.tree.reads m w.second w.second_at) h.right in_second.0) box,
       )
@@ -294,7 +297,7 @@ module _ (law : OneItem) (hash : Alg → List ℕ → List ℕ) (said : Question
     pub first_reached : is_reached rs first.place ≡ true
     pub second_reached : is_reached ss second.place ≡ true
 
-  -- they are there where the ingredient is read of a box of each
+  -- the manifests that an ingredient names are there where the ingredient is read of a box of each
   pub targets : (n m : ℕ) (w : Correspond rs ss n m) (e : Ref) (label : List ℕ)
       (h : BothBoxes hash w.first w.second e label) (i : Ingredient) (name : List ℕ)
       → value_in h.left.ingredient ≡ Some i → value_in h.right.ingredient ≡ Some i
@@ -305,8 +308,8 @@ module _ (law : OneItem) (hash : Alg → List ℕ → List ℕ) (said : Question
       let c = box_says w.second label h.right h.right_is in
       let x = (f.manifests n w.first w.first_at w.first_reached).ingredients h.left b.0 label b.1 kind in
       let y = (g.manifests m w.second w.second_at w.second_reached).ingredients h.right c.0 label c.1 kind in
-      let own : x.ingredient ≡ i = one_of (value_in h.left.ingredient) x.ingredient i x.is left in
-      let other : y.ingredient ≡ i = one_of (value_in h.right.ingredient) y.ingredient i y.is right in
+      let own : x.ingredient ≡ i = one_value (value_in h.left.ingredient) x.ingredient i x.is left in
+      let other : y.ingredient ≡ i = one_value (value_in h.right.ingredient) y.ingredient i y.is right in
       let p : NamedFact hash rs n w.first i name =
       subst (λ z. NamedFact hash rs n w.first z name) own
       (x.named name (ap (λ z. named_by (Some z)) own ∙ names)) in
@@ -373,7 +376,7 @@ module _ (law : OneItem) (hash : Alg → List ℕ → List ℕ) (said : Question
   box_of : (r : Reading) (b : Superbox) → r.manifest.signature ≡ Some b → signature_box (Some r) ≡ b
   box_of r b e = ap (λ o. unwrap_or o no_superbox) e
 
-  -- its claim bytes
+  -- the claim bytes of a manifest that is there
   list_of : (r : Reading) (bytes : List ℕ) → claim_bytes_of r ≡ Some bytes → claim_list (Some r) ≡ bytes
   list_of r bytes e = ap (λ o. unwrap_or o []) e
 
@@ -386,7 +389,7 @@ module _ (law : OneItem) (hash : Alg → List ℕ → List ℕ) (said : Question
       → IsReal hash said (signature_pair w.first ref name (Some a) (Some b))
   signature_real n m w name a b ref x y differ =
       let one : x.alg ≡ y.alg =
-      one_of (alg_named (alg_in w.first ref.alg)) x.alg y.alg x.known
+      one_value (alg_named (alg_in w.first ref.alg)) x.alg y.alg x.known
       (ap alg_named (one_alg w.first w.second ref.alg (one_claim n m w)) ∙ y.known) in
       record {
         alg = x.alg;
@@ -399,8 +402,7 @@ module _ (law : OneItem) (hash : Alg → List ℕ → List ℕ) (said : Question
             ∙ ap (λ (z : Superbox). hash x.alg z.contents) (sym (box_of b y.box y.has_box));
       }
 
-  -- where they are equal, both claims are approved under one message; where these differ, that is real
-  -- evidence
+  -- where the signature boxes are equal, both claims are approved under one message; where the claims differ, that is real evidence
   claims_real : (n m : ℕ) (w : Correspond rs ss n m) (i : Ingredient) (name : List ℕ)
       (c : Targets n m w i name) (ref : Ref) → BySignature hash w.first c.first.child ref
       → BySignature hash w.second c.second.child ref
@@ -421,7 +423,7 @@ module _ (law : OneItem) (hash : Alg → List ℕ → List ℕ) (said : Question
       alike.signatures c.first.place c.second.place a b c.first.at_place c.second.at_place p.box q.box
       p.has_box q.has_box contents in
       let item : p.item ≡ q.item =
-      one_of p.box.item p.item q.item p.has_item (ap (λ (z : Superbox). z.item) box ∙ q.has_item) in
+      one_value p.box.item p.item q.item p.has_item (ap (λ (z : Superbox). z.item) box ∙ q.has_item) in
       let parts : p.parts ≡ q.parts =
       same_message law p.item p.parts q.parts p.is_message
       (subst (λ z. SpellsMessage z q.parts) (sym item) q.is_message) in
@@ -448,11 +450,11 @@ module _ (law : OneItem) (hash : Alg → List ℕ → List ℕ) (said : Question
       (Some a) (Some b))
   whole_real n m w i name a b x y differ =
       let ref : x.reference ≡ y.reference =
-      one_of i.manifest x.reference y.reference x.is_reference y.is_reference in
+      one_value i.manifest x.reference y.reference x.is_reference y.is_reference in
       let alg : option_and_then (λ (z : Ref). z.alg) i.manifest ≡ x.reference.alg =
       ap (option_and_then (λ (z : Ref). z.alg)) x.is_reference in
       let one : x.alg ≡ y.alg =
-      one_of (alg_named (alg_in w.first x.reference.alg)) x.alg y.alg x.known
+      one_value (alg_named (alg_in w.first x.reference.alg)) x.alg y.alg x.known
       (ap (λ (z : Ref). alg_named (alg_in w.first z.alg)) ref
       ∙ ap alg_named (one_alg w.first w.second y.reference.alg (one_claim n m w)) ∙ y.known) in
       record {

@@ -4,9 +4,10 @@ use Rattle.std.specs.List.{find, filter, flat_map}
 use Rattle.std.specs.Option.{option_or}
 use Rattle.std.proofs.lemmas.Bool.{cases_eq}
 use Rattle.std.proofs.lemmas.List.Folds.{find-append}
-use Rattle.std.proofs.lemmas.Option.{same_Some, slice_get_within, get_or_from_slice_get, slice_get-get_or}
+use Rattle.std.proofs.lemmas.Option.{same_Some}
 use Rattle.c2_rules.proofs.ListLemmas.{contains_none, contains_head, contains_tail, contains_cons}
 use Rattle.c2_rules.specs.Tests.{downward}
+use Rattle.c2_lemmas.proofs.Bools.{true_and_false}
 
 -- ---- cases
 
@@ -20,19 +21,7 @@ pub option_cases : {X : Type 0} (o : Option X) → (o ≡ None) ⊎ ((x : X) × 
 option_cases None = inl refl
 option_cases (Some x) = inr (x, refl)
 
--- two values that one option holds are one
-pub one_of : {X : Type 0} (o : Option X) (x y : X) → o ≡ Some x → o ≡ Some y → x ≡ y
-one_of o x y p q = same_Some x y (sym p ∙ q)
-
--- no condition holds and doesn't
-pub never : {P : Type 0} (b : Bool) → b ≡ true → b ≡ false → P
-never b p q = absurd (let bad = sym p ∙ q in cc (bad))
-
 -- ---- members
-
--- what stands at a place is a member
-pub member_at : {X : Type 0} (xs : List X) (i : ℕ) (x : X) → slice_get xs i ≡ Some x → Contains xs x
-member_at xs i x e = (i, slice_get_within xs i x e, get_or_from_slice_get xs i x x e)
 
 -- what a search finds is a member, and passes
 find_head : {X : Type 0} (d : X → Bool) (y : X) (ys : List X) (x : X) (b : Bool) → d y ≡ b
@@ -73,14 +62,6 @@ in_front [] (suc n) j x e = absurd cc
 in_front (y ∷ ys) zero j x e = absurd cc
 in_front (y ∷ ys) (suc n) zero x e = e
 in_front (y ∷ ys) (suc n) (suc j) x e = in_front ys n j x e
-
--- what stands at a place of the front of a list is what stands there in the list
-pub front_at : {X : Type 0} (xs : List X) (n j : ℕ) → j < n → slice_get (take n xs) j ≡ slice_get xs j
-front_at [] zero j lt = refl
-front_at [] (suc n) j lt = refl
-front_at (y ∷ ys) zero j lt = absurd (omega arith)
-front_at (y ∷ ys) (suc n) zero lt = refl
-front_at (y ∷ ys) (suc n) (suc j) lt = front_at ys n j (omega arith)
 
 -- ---- one list after another
 
@@ -200,7 +181,7 @@ keep_head : {X : Type 0} (d : X → Bool) (y : X) (ys : List X) (x : X) (b : Boo
 keep_head d y ys x true t passes (inl same) =
     subst (Contains (y ∷ filter d ys)) same (contains_head y (filter d ys))
 keep_head d y ys x true t passes (inr rest) = contains_tail y x (filter d ys) rest
-keep_head d y ys x false t passes (inl same) = never (d y) (ap d same ∙ passes) t
+keep_head d y ys x false t passes (inl same) = true_and_false (d y) (ap d same ∙ passes) t
 keep_head d y ys x false t passes (inr rest) = rest
 
 -- a member that passes is kept
@@ -233,7 +214,3 @@ pub none_at : {X : Type 0} (d : X → Bool) (xs : List X) → find d xs ≡ None
 none_at d [] e i x is = absurd cc
 none_at d (y ∷ ys) e zero x is = ap d (sym (same_Some y x is)) ∙ (none_cons d y ys e).0
 none_at d (y ∷ ys) e (suc i) x is = none_at d ys (none_cons d y ys e).1 i x is
-
--- a member stands at a place
-pub place_of_member : {X : Type 0} (xs : List X) (x : X) → Contains xs x → (i : ℕ) × (slice_get xs i ≡ Some x)
-place_of_member xs x c = (c.0, slice_get-get_or xs c.0 x c.1 ∙ ap Some c.2)

@@ -21,21 +21,21 @@ use Rattle.c2_compare_spec.specs.declared.compared.EvidenceKind.{EvidenceKind}
 use Rattle.c2_compare_spec.specs.declared.compared.Side.TheVariants.{First, Second}
 use Rattle.c2_spec.proofs.OneMessage.{OneItem}
 use Rattle.c2_compare_spec.proofs.Answers.{accepted_valid}
-use Rattle.c2_compare_spec.proofs.Lists.{one_of}
 use Rattle.c2_compare_spec.proofs.OneStore.{one_opened_as, one_answer, one_asks}
+use Rattle.c2_lemmas.proofs.Options.{one_value}
 
 module _ (law : OneItem) (hash : Alg → List ℕ → List ℕ) (said : Question → Verdict) where
   -- an accepted file is read in one way
   one_accepted : (file : List ℕ) → IsOpenedOnce file → (s t : StoreReading) → IsAccepted hash said file s
       → IsAccepted hash said file t → s ≡ t
-  one_accepted file once s t h k = (one_opened_as law file once s t h.opened k.opened).store
+  one_accepted file once s t h k = (one_opened_as file once s t h.opened k.opened).store
 
-  -- and has one summary
+  -- an accepted file has one summary
   one_summary : (file : List ℕ) → IsOpenedOnce file
       → (s t : StoreReading) (o : IsOpenedAs file s) (p : IsOpenedAs file t)
       → summary_in file s o ≡ summary_in file t p
   one_summary file once s t o p =
-      let r = one_opened_as law file once s t o p in
+      let r = one_opened_as file once s t o p in
       ap (λ x. summary_of (length file) x o.len s) r.start
       ∙ ap (λ x. summary_of (length file) p.start x s) r.len
       ∙ ap (summary_of (length file) p.start p.len) r.store
@@ -46,7 +46,7 @@ module _ (law : OneItem) (hash : Alg → List ℕ → List ℕ) (said : Question
       → is_valid a ≡ false → P
   never_both file once s a h k refused =
       let one : a ≡ answer.Valid (summary_in file s h.opened) =
-      one_answer law hash said file once a (answer.Valid (summary_in file s h.opened)) k
+      one_answer hash said file once a (answer.Valid (summary_in file s h.opened)) k
       (accepted_valid hash said file s h) in
       absurd (let bad = sym refused ∙ ap is_valid one in cc (bad))
 
@@ -56,7 +56,7 @@ module _ (law : OneItem) (hash : Alg → List ℕ → List ℕ) (said : Question
   first_one : (s t : StoreReading) → IsAccepted hash said first s → IsAccepted hash said first t → s ≡ t
   first_one s t h k = one_accepted law hash said first once s t h k
 
-  -- also those of the second
+  -- the readings of the second file are one
   second_one : (s t : StoreReading) → IsAccepted hash said second s → IsAccepted hash said second t → s ≡ t
   second_one s t h k = one_accepted law hash said second twice s t h k
 
@@ -83,7 +83,7 @@ module _ (law : OneItem) (hash : Alg → List ℕ → List ℕ) (said : Question
       let firsts : first_difference a.store a.other ≡ first_difference b.store b.other =
       ap (λ x. first_difference x a.other) p ∙ ap (first_difference b.store) q in
       let pairs : a.pair ≡ b.pair =
-      one_of (first_difference a.store a.other) a.pair b.pair a.is_first (firsts ∙ b.is_first) in (
+      one_value (first_difference a.store a.other) a.pair b.pair a.is_first (firsts ∙ b.is_first) in (
         a.is_kind ∙ ap (λ (x : ListPair). evidence_kind x.bound_by) pairs ∙ sym b.is_kind,
         a.is_text
             ∙ ap evidence_text pairs ∙ sym b.is_text,
@@ -97,7 +97,7 @@ module _ (law : OneItem) (hash : Alg → List ℕ → List ℕ) (said : Question
       (first_one a.store b.store a.first_accepted b.one_claim.first_accepted)
       (second_one a.other b.other a.second_accepted b.one_claim.second_accepted) a.differ b.one_claim.claims
 
-  -- nor do different claims and the same
+  -- different claims and sameness don't go together
   claims_or_same : {P : Type 0} (x : Summary) → HaveDifferentClaims hash said first second
       → IsSame hash said first second x → P
   claims_or_same x a b =
@@ -105,7 +105,7 @@ module _ (law : OneItem) (hash : Alg → List ℕ → List ℕ) (said : Question
       (first_one a.store b.store a.first_accepted b.one_claim.first_accepted)
       (second_one a.other b.other a.second_accepted b.one_claim.second_accepted) a.differ b.one_claim.claims
 
-  -- nor do evidence and the same
+  -- evidence and sameness don't go together
   evidence_or_same : {P : Type 0} (k : EvidenceKind) (t : List ℕ) (x : Summary)
       → HaveEvidence hash said first second k t → IsSame hash said first second x → P
   evidence_or_same k t x a b =
@@ -123,7 +123,7 @@ module _ (law : OneItem) (hash : Alg → List ℕ → List ℕ) (said : Question
   pub one_comparison : (x y : Compared) (t u : List ℕ) → IsComparison hash said first second x t
       → IsComparison hash said first second y u → (x ≡ y) × (t ≡ u)
   one_comparison (NotAccepted First a) (NotAccepted First b) t u p q = (
-    ap (NotAccepted First) (one_answer law hash said first once a b p.0.is_answer q.0.is_answer),
+    ap (NotAccepted First) (one_answer hash said first once a b p.0.is_answer q.0.is_answer),
     p.1
         ∙ sym q.1,
   )
@@ -138,7 +138,7 @@ module _ (law : OneItem) (hash : Alg → List ℕ → List ℕ) (said : Question
   one_comparison (NotAccepted Second a) (NotAccepted First b) t u p q =
       never_both law hash said first once p.0.store b p.0.accepted q.0.is_answer q.0.invalid
   one_comparison (NotAccepted Second a) (NotAccepted Second b) t u p q = (
-    ap (NotAccepted Second) (one_answer law hash said second twice a b p.0.is_answer q.0.is_answer),
+    ap (NotAccepted Second) (one_answer hash said second twice a b p.0.is_answer q.0.is_answer),
     p.1
         ∙ sym q.1,
   )
@@ -181,7 +181,7 @@ module _ (law : OneItem) (hash : Alg → List ℕ → List ℕ) (said : Question
   one_second a b ps qs e p q = by a p (subst (λ x. SecondAsks hash said second x qs) (sym e) q)
     where
       by : (x : Answer) → SecondAsks hash said second x ps → SecondAsks hash said second x qs → ps ≡ qs
-      by (answer.Valid summary) h k = one_asks law hash said second twice ps qs h k
+      by (answer.Valid summary) h k = one_asks hash said second twice ps qs h k
       by (answer.Failing failing) h k = h ∙ sym k
       by (answer.Refused reason number) h k = h ∙ sym k
       by answer.NoStore h k = h ∙ sym k
@@ -191,9 +191,9 @@ module _ (law : OneItem) (hash : Alg → List ℕ → List ℕ) (said : Question
       → CompareAsks hash said first second qs → ps ≡ qs
   one_asked ps qs p q =
       let same : p.answer ≡ q.answer =
-      one_answer law hash said first once p.answer q.answer p.is_answer q.is_answer in
+      one_answer hash said first once p.answer q.answer p.is_answer q.is_answer in
       let own : p.of_first ≡ q.of_first =
-      one_asks law hash said first once p.of_first q.of_first p.first_asks q.first_asks in
+      one_asks hash said first once p.of_first q.of_first p.first_asks q.first_asks in
       let other : p.of_second ≡ q.of_second =
       one_second p.answer q.answer p.of_second q.of_second same p.second_asks q.second_asks in
       p.are ∙ ap₂ (λ (x y : List Question). x ++ y) own other ∙ sym q.are

@@ -1,6 +1,5 @@
 -- A file that is opened as one thing is read as one store, and has one answer.
-use Rattle.std.proofs.Common.{◌≡◌, ℕ, List, [], ◌∷◌, Option, Some, None, Result, length, refl, sym, ap, ap₂, ◌∙◌, subst}
-use Rattle.std.specs.List.{AllZip}
+use Rattle.std.proofs.Common.{◌≡◌, ℕ, List, Option, Some, None, Result, length, refl, sym, ap, ap₂, ◌∙◌, subst}
 use Rattle.c2_base.specs.declared.values.Question.{Question}
 use Rattle.c2_spec.specs.C2pa.Claim.{claim_of}
 use Rattle.c2_spec.specs.C2pa.Manifest.{Manifest, Superbox, claim_bytes, claim_version_of, manifests_of}
@@ -12,11 +11,9 @@ use Rattle.c2_spec.specs.declared.assertion.FieldError.{FieldError}
 use Rattle.c2_spec.specs.declared.claim.Claim.{Claim}
 use Rattle.c2_spec.specs.declared.digest.Alg.{Alg}
 use Rattle.c2_spec.specs.declared.panel.Verdict.{Verdict}
-use Rattle.c2_rules.proofs.BindingLaws.{one_binding}
 use Rattle.c2_rules.specs.Binding.{Binding, Media, IsItemOf, IsLabelledBinding, binding_label, binding_payload}
 use Rattle.c2_rules.specs.CheckList.{StoreReading, IsStoreReading, HasBindingOf, active_in, store_answer, check_asks}
 use Rattle.c2_rules.specs.Readings.{IsMessageOf, ReadBox, IsReadBox, Reading, IsReading, signature_item}
-use Rattle.c2_rules.specs.Rules.{label_kind}
 use Rattle.c2_rules.specs.Validated.{IsFileReading, IsOpenedAnswer, IsAnswer, OpenedAsks, CheckAsks}
 use Rattle.c2_rules.specs.declared.answer.Answer.{Answer}
 use Rattle.c2_rules.specs.declared.parsed.Parsed.{Parsed}
@@ -25,105 +22,86 @@ use Rattle.c2_rules.proofs.OpenedStore.{same_here}
 use Rattle.c2_rules.specs.Opened.{IsOpenedOnce}
 use Rattle.c2_compare_spec.specs.Accepted.{IsOpenedAs}
 use Rattle.c2_compare_spec.proofs.Alike.{one_item, one_parsed, ingredients_alike}
-use Rattle.c2_spec.proofs.OneMessage.{OneItem, same_message}
+use Rattle.c2_spec.proofs.OneMessage.{same_message}
+use Rattle.c2_cbor_spec.proofs.PlainBack.{one_item as one_item_law}
+use Rattle.c2_lemmas.proofs.Each.{one_list}
+use Rattle.c2_rules.proofs.OneAnswer.{one_labelled}
 
 -- ---- what is read of a store
 
 -- a payload is one item, or none
-one_item_of : OneItem → (o : Option (List ℕ)) (a b : Option Item) → IsItemOf o a → IsItemOf o b → a ≡ b
-one_item_of law None None None p q = refl
-one_item_of law None None (Some w) p q = absurd q
-one_item_of law None (Some v) b p q = absurd p
-one_item_of law (Some s) None None p q = refl
-one_item_of law (Some s) None (Some w) p q = absurd (p w q)
-one_item_of law (Some s) (Some v) None p q = absurd (q v p)
-one_item_of law (Some s) (Some v) (Some w) p q = ap Some (one_item law s v w p q)
+one_item_of : (o : Option (List ℕ)) (a b : Option Item) → IsItemOf o a → IsItemOf o b → a ≡ b
+one_item_of None None None p q = refl
+one_item_of None None (Some w) p q = absurd q
+one_item_of None (Some v) b p q = absurd p
+one_item_of (Some s) None None p q = refl
+one_item_of (Some s) None (Some w) p q = absurd (p w q)
+one_item_of (Some s) (Some v) None p q = absurd (q v p)
+one_item_of (Some s) (Some v) (Some w) p q = ap Some (one_item s v w p q)
 
 -- a payload is one message, or none
-one_message_of : OneItem → (o : Option (List ℕ)) (a b : Option SignParts) → IsMessageOf o a → IsMessageOf o b
+one_message_of : (o : Option (List ℕ)) (a b : Option SignParts) → IsMessageOf o a → IsMessageOf o b
     → a ≡ b
-one_message_of law None None None p q = refl
-one_message_of law None None (Some y) p q = absurd q
-one_message_of law None (Some x) b p q = absurd p
-one_message_of law (Some s) None None p q = refl
-one_message_of law (Some s) None (Some y) p q = absurd (p y q)
-one_message_of law (Some s) (Some x) None p q = absurd (q x p)
-one_message_of law (Some s) (Some x) (Some y) p q = ap Some (same_message law s x y p q)
+one_message_of None None None p q = refl
+one_message_of None None (Some y) p q = absurd q
+one_message_of None (Some x) b p q = absurd p
+one_message_of (Some s) None None p q = refl
+one_message_of (Some s) None (Some y) p q = absurd (p y q)
+one_message_of (Some s) (Some x) None p q = absurd (q x p)
+one_message_of (Some s) (Some x) (Some y) p q = ap Some (same_message one_item_law s x y p q)
 
 -- a box is read as one thing
-one_box : OneItem → (b : Superbox) (x y : ReadBox) → IsReadBox b x → IsReadBox b y → x ≡ y
-one_box law b x y p q =
+one_box : (b : Superbox) (x y : ReadBox) → IsReadBox b x → IsReadBox b y → x ≡ y
+one_box b x y p q =
     let boxed : x.boxed ≡ y.boxed = p.same ∙ sym q.same in
     ap₂ (λ (z : Superbox) (i : Parsed _). record { boxed = z; ingredient = i }) boxed
-    (ingredients_alike law x y (subst (λ z. IsReadBox z x) (sym p.same) p)
+    (ingredients_alike x y (subst (λ z. IsReadBox z x) (sym p.same) p)
     (subst (λ z. IsReadBox z y) (sym q.same) q) boxed)
-
--- where each member comes to one thing, a list comes to one list
-one_list : {A B : Type 0} (R : A → B → Type 0) → ((x : A) (y z : B) → R x y → R x z → y ≡ z)
-    → (xs : List A) (ys zs : List B)
-    → AllZip R xs ys → AllZip R xs zs → ys ≡ zs
-one_list R once [] [] [] p q = refl
-one_list R once [] [] (z ∷ zs) p q = absurd q
-one_list R once [] (y ∷ ys) zs p q = absurd p
-one_list R once (x ∷ xs) [] zs p q = absurd p
-one_list R once (x ∷ xs) (y ∷ ys) [] p q = absurd q
-one_list {A} {B} R once (x ∷ xs) (y ∷ ys) (z ∷ zs) p q =
-    ap₂ (λ (b : B) (bs : List B). b ∷ bs) (once x y z p.0 q.0) (one_list R once xs ys zs p.1 q.1)
 
 -- a reading of these parts, written short
 abbrev reading : Manifest → Parsed Claim → Option SignParts → List ReadBox → Reading
 reading m claim message boxes = record { manifest = m; claim = claim; message = message; boxes = boxes }
 
 -- a manifest is read as one thing
-one_reading : OneItem → (m : Manifest) (r s : Reading) → IsReading m r → IsReading m s → r ≡ s
-one_reading law m r s p q =
+one_reading : (m : Manifest) (r s : Reading) → IsReading m r → IsReading m s → r ≡ s
+one_reading m r s p q =
     ap (λ (x : Manifest). reading x r.claim r.message r.boxes) (p.same ∙ sym q.same)
     ∙ ap (λ (x : Parsed Claim). reading s.manifest x r.message r.boxes)
-    (one_parsed law (claim_of (claim_version_of m.claims)) (claim_bytes m.claims) r.claim s.claim p.claim q.claim)
+    (one_parsed (claim_of (claim_version_of m.claims)) (claim_bytes m.claims) r.claim s.claim p.claim q.claim)
     ∙ ap (λ (x : Option SignParts). reading s.manifest s.claim x r.boxes)
-    (one_message_of law (signature_item m) r.message s.message p.message q.message)
+    (one_message_of (signature_item m) r.message s.message p.message q.message)
     ∙ ap (λ (x : List ReadBox). reading s.manifest s.claim s.message x)
-    (one_list IsReadBox (one_box law) m.assertions r.boxes s.boxes p.boxes q.boxes)
-
--- a label and an item come to one binding
-one_labelled : (m : Media) (label : Option (List ℕ)) (item : Option Item)
-    (a b : Option (Result Binding FieldError))
-    → IsLabelledBinding m label item a → IsLabelledBinding m label item b → a ≡ b
-one_labelled m None item a b p q = p ∙ sym q
-one_labelled m (Some l) None a b p q = p ∙ sym q
-one_labelled m (Some l) (Some v) None b p q = absurd p
-one_labelled m (Some l) (Some v) (Some x) None p q = absurd q
-one_labelled m (Some l) (Some v) (Some x) (Some y) p q = ap Some (one_binding m (label_kind l) v x y p q)
+    (one_list IsReadBox one_box m.assertions r.boxes s.boxes p.boxes q.boxes)
 
 -- an active manifest has one binding
-one_bound : OneItem → (m : Media) (o : Option Reading) (a b : Option (Result Binding FieldError))
+one_bound : (m : Media) (o : Option Reading) (a b : Option (Result Binding FieldError))
     → HasBindingOf m o a → HasBindingOf m o b → a ≡ b
-one_bound law m None a b p q = p ∙ sym q
-one_bound law m (Some r) a b p q =
-    let item : q.item ≡ p.item = one_item_of law (binding_payload r) q.item p.item q.is_item p.is_item in
+one_bound m None a b p q = p ∙ sym q
+one_bound m (Some r) a b p q =
+    let item : q.item ≡ p.item = one_item_of (binding_payload r) q.item p.item q.is_item p.is_item in
     one_labelled m (binding_label r) p.item a b p.is
     (subst (λ v. IsLabelledBinding m (binding_label r) v b) item q.is)
 
 -- a store is read as one thing
-one_store : OneItem → (m : Media) (ms : List Manifest) (s t : StoreReading) → IsStoreReading m ms s
+one_store : (m : Media) (ms : List Manifest) (s t : StoreReading) → IsStoreReading m ms s
     → IsStoreReading m ms t → s ≡ t
-one_store law m ms s t p q =
+one_store m ms s t p q =
     let each : s.readings ≡ t.readings =
-    one_list IsReading (one_reading law) ms s.readings t.readings p.each q.each in
+    one_list IsReading one_reading ms s.readings t.readings p.each q.each in
     let bound : HasBindingOf m (active_in t.readings) s.binding =
     subst (λ (rs : List Reading). HasBindingOf m (active_in rs) s.binding) each p.binding in
     ap₂ (λ (rs : List Reading) (v : Option (Result Binding FieldError)).
     record { readings = rs; binding = v }) each
-    (one_bound law m (active_in t.readings) s.binding t.binding bound q.binding)
+    (one_bound m (active_in t.readings) s.binding t.binding bound q.binding)
 
 -- ---- the media file
 
--- its store is read in one way
-one_file_reading : OneItem → (file : List ℕ) (t : Tree) (a b : StoreReading) → IsFileReading file t a
+-- the store of a file is read in one way
+one_file_reading : (file : List ℕ) (t : Tree) (a b : StoreReading) → IsFileReading file t a
     → IsFileReading file t b → a ≡ b
-one_file_reading law file t a b p q =
+one_file_reading file t a b p q =
     let media : q.media ≡ p.media = media_once file q.media p.media q.is_media p.is_media in
-    one_store law p.media (manifests_of t) a b p.reads
+    one_store p.media (manifests_of t) a b p.reads
     (subst (λ m. IsStoreReading m (manifests_of t) b) media q.reads)
 
 -- ---- one opening
@@ -132,7 +110,7 @@ one_file_reading law file t a b p q =
 one_start : (a b c d : ℕ) (t u : Tree) → ◌≡◌ {A = Opening Tree} (here a b t) (here c d u) → a ≡ c
 one_start a b c d t u e = cc (e)
 
--- nor in another length
+-- what is here with one length is here with no other
 one_len : (a b c d : ℕ) (t u : Tree) → ◌≡◌ {A = Opening Tree} (here a b t) (here c d u) → b ≡ d
 one_len a b c d t u e = cc (e)
 
@@ -143,51 +121,50 @@ pub record OneReading (file : List ℕ) (s t : StoreReading) (o : IsOpenedAs fil
   pub start : o.start ≡ p.start
   pub len : o.len ≡ p.len
 
--- where it is opened as one thing
-pub one_opened_as : OneItem → (file : List ℕ) → IsOpenedOnce file
+-- a file that is opened as one thing is opened as a store in one place, and read in one way
+pub one_opened_as : (file : List ℕ) → IsOpenedOnce file
     → (s t : StoreReading) (o : IsOpenedAs file s) (p : IsOpenedAs file t) → OneReading file s t o p
-one_opened_as law file once s t o p =
+one_opened_as file once s t o p =
     let e = once (here o.start o.len o.tree) (here p.start p.len p.tree) o.is_opened p.is_opened in
     let tree : p.tree ≡ o.tree = sym (same_here o.start o.len p.start p.len o.tree p.tree e) in
     record {
-      store = one_file_reading law file o.tree s t o.reads (subst (λ u. IsFileReading file u t) tree p.reads);
+      store = one_file_reading file o.tree s t o.reads (subst (λ u. IsFileReading file u t) tree p.reads);
       start = one_start o.start o.len p.start p.len o.tree p.tree e;
       len = one_len o.start o.len p.start p.len o.tree p.tree e;
     }
 
 -- what is answered over one opening is one answer
-one_opened_answer : OneItem
-    → (hash : Alg → List ℕ → List ℕ) (said : Question → Verdict) (file : List ℕ) (o : Opening Tree)
+one_opened_answer : (hash : Alg → List ℕ → List ℕ) (said : Question → Verdict) (file : List ℕ) (o : Opening Tree)
     (a b : Answer)
     → IsOpenedAnswer hash said file o a → IsOpenedAnswer hash said file o b → a ≡ b
-one_opened_answer law hash said file (refused reason number) a b p q = p ∙ sym q
-one_opened_answer law hash said file absent a b p q = p ∙ sym q
-one_opened_answer law hash said file (here start len t) a b p q =
-    p.2 ∙ ap (store_answer hash said (length file) start len) (one_file_reading law file t p.0 q.0 p.1 q.1)
+one_opened_answer hash said file (refused reason number) a b p q = p ∙ sym q
+one_opened_answer hash said file absent a b p q = p ∙ sym q
+one_opened_answer hash said file (here start len t) a b p q =
+    p.2 ∙ ap (store_answer hash said (length file) start len) (one_file_reading file t p.0 q.0 p.1 q.1)
     ∙ sym q.2
 
 -- a file that is opened as one thing has one answer
-pub one_answer : OneItem → (hash : Alg → List ℕ → List ℕ) (said : Question → Verdict) (file : List ℕ)
+pub one_answer : (hash : Alg → List ℕ → List ℕ) (said : Question → Verdict) (file : List ℕ)
     → IsOpenedOnce file → (a b : Answer)
     → IsAnswer hash said file a → IsAnswer hash said file b → a ≡ b
-one_answer law hash said file once a b p q =
-    one_opened_answer law hash said file p.0 a b p.2
+one_answer hash said file once a b p q =
+    one_opened_answer hash said file p.0 a b p.2
     (subst (λ o. IsOpenedAnswer hash said file o b) (once q.0 p.0 q.1 p.1) q.2)
 
 -- ---- questions
 
 -- what is asked over one opening is one list
-one_opened_asks : OneItem → (asks : List Reading → List Question) (o : Opening Tree) (ps qs : List Question)
+one_opened_asks : (asks : List Reading → List Question) (o : Opening Tree) (ps qs : List Question)
     → OpenedAsks asks o ps → OpenedAsks asks o qs → ps ≡ qs
-one_opened_asks law asks (refused reason number) ps qs p q = p ∙ sym q
-one_opened_asks law asks absent ps qs p q = p ∙ sym q
-one_opened_asks law asks (here start len t) ps qs p q =
-    p.2 ∙ ap asks (one_list IsReading (one_reading law) (manifests_of t) p.0 q.0 p.1 q.1) ∙ sym q.2
+one_opened_asks asks (refused reason number) ps qs p q = p ∙ sym q
+one_opened_asks asks absent ps qs p q = p ∙ sym q
+one_opened_asks asks (here start len t) ps qs p q =
+    p.2 ∙ ap asks (one_list IsReading one_reading (manifests_of t) p.0 q.0 p.1 q.1) ∙ sym q.2
 
 -- the check of a file that is opened as one thing asks one list of questions
-pub one_asks : OneItem → (hash : Alg → List ℕ → List ℕ) (said : Question → Verdict) (file : List ℕ)
+pub one_asks : (hash : Alg → List ℕ → List ℕ) (said : Question → Verdict) (file : List ℕ)
     → IsOpenedOnce file → (ps qs : List Question) → CheckAsks hash said file ps → CheckAsks hash said file qs
     → ps ≡ qs
-one_asks law hash said file once ps qs p q =
-    one_opened_asks law (check_asks hash said) p.0 ps qs p.2
+one_asks hash said file once ps qs p q =
+    one_opened_asks (check_asks hash said) p.0 ps qs p.2
     (subst (λ o. OpenedAsks (check_asks hash said) o qs) (once q.0 p.0 q.1 p.1) q.2)

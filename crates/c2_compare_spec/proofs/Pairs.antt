@@ -27,7 +27,7 @@ pub found_pair : (p : ListPair) (ps : List ListPair) (q : ListPair) → find do_
     → ((p ≡ q) × (p.left ≢ p.right)) ⊎ ((p.left ≡ p.right) × (find do_differ ps ≡ Some q))
 found_pair p ps q e = found_by p ps q (bytes_eq p.left p.right) refl e
 
--- the same of a pair alone
+-- the first difference of a pair alone is the pair, whose lists differ
 pub found_only : (p q : ListPair) → find do_differ (p ∷ []) ≡ Some q → (p ≡ q) × (p.left ≢ p.right)
 found_only p q e =
     elim (found_pair p [] q e) [

@@ -20,8 +20,8 @@ use Rattle.c2_spec.proofs.OneMessage.{OneItem}
 use Rattle.c2_compare_spec.proofs.Alike.{box_reads}
 use Rattle.c2_compare_spec.proofs.Facts.{SeenAlike, StoreFacts, IsShown}
 use Rattle.c2_compare_spec.proofs.Links.{ingredient_stays, box_says, ingredient_is, stays, BothBoxes, one_claim, one_entry, label_first, counterpart_is, both_boxes, box_shown, box_same, Targets, targets, targets_correspond, target_shown, target_same}
-use Rattle.c2_compare_spec.proofs.Lists.{one_of}
 use Rattle.c2_compare_spec.proofs.Pairs.{found_pair, none_pair, FoundEntry, found_entry, none_entry, pairs_are}
+use Rattle.c2_lemmas.proofs.Options.{one_value}
 
 -- ---- a box that reads as an ingredient
 
@@ -254,11 +254,11 @@ module _ (law : OneItem) (hash : Alg → List ℕ → List ℕ) (said : Question
       by (l.named name (ap (λ z. named_by (Some z)) same ∙ names))
     where
       box : l.left ≡ b
-      box = one_of (box_with w.first label) l.left b l.left_found found
+      box = one_value (box_with w.first label) l.left b l.left_found found
 
       same : l.ingredient ≡ own
       same =
-          one_of (value_in b.ingredient) l.ingredient own
+          one_value (value_in b.ingredient) l.ingredient own
           (sym (ap (λ (x : ReadBox). value_in x.ingredient) box) ∙ l.left_is) reads
 
       by : (c : Targets law hash said rs ss f g alike n m w l.ingredient name)
@@ -270,7 +270,7 @@ module _ (law : OneItem) (hash : Alg → List ℕ → List ℕ) (said : Question
           (r.0.first.labelled ∙ sym is) in
           (r.0.second.place, subst (λ k. Correspond rs ss k r.0.second.place) place r.1, r.0.second_child)
 
-  -- and in the second
+  -- what a link names in the second store is the manifest with this label
   landed_back : (n m : ℕ) (w : Correspond rs ss n m) (label : List ℕ) (l : Linked n m w label) (b : ReadBox)
       → box_with w.second label ≡ Some b → (own : Ingredient) → value_in b.ingredient ≡ Some own
       → (name : List ℕ) → named_by (Some own) ≡ Some name → (i : ℕ) (child : Reading)
@@ -280,11 +280,11 @@ module _ (law : OneItem) (hash : Alg → List ℕ → List ℕ) (said : Question
       by (l.named name (ap (λ z. named_by (Some z)) same ∙ names))
     where
       box : l.right ≡ b
-      box = one_of (box_with w.second label) l.right b l.right_found found
+      box = one_value (box_with w.second label) l.right b l.right_found found
 
       same : l.ingredient ≡ own
       same =
-          one_of (value_in b.ingredient) l.ingredient own
+          one_value (value_in b.ingredient) l.ingredient own
           (sym (ap (λ (x : ReadBox). value_in x.ingredient) box) ∙ l.right_is) reads
 
       by : (c : Targets law hash said rs ss f g alike n m w l.ingredient name)
@@ -301,7 +301,7 @@ module _ (law : OneItem) (hash : Alg → List ℕ → List ℕ) (said : Question
       → IsChild rs n j
       → (i : ℕ) × Correspond rs ss j i × IsChild ss m i
   step n m w none j c =
-      let user : c.user ≡ w.first = one_of (slice_get rs n) c.user w.first c.is_user w.first_at in
+      let user : c.user ≡ w.first = one_value (slice_get rs n) c.user w.first c.is_user w.first_at in
       let listed : Contains w.first.boxes c.box =
       subst (λ (r : Reading). Contains r.boxes c.box) user c.has_box in
       let by = names_by c.box (label_in c.child) c.names in
@@ -314,7 +314,7 @@ module _ (law : OneItem) (hash : Alg → List ℕ → List ℕ) (said : Question
       → IsChild ss m i
       → (j : ℕ) × Correspond rs ss j i × IsChild rs n j
   step_back n m w none i c =
-      let user : c.user ≡ w.second = one_of (slice_get ss m) c.user w.second c.is_user w.second_at in
+      let user : c.user ≡ w.second = one_value (slice_get ss m) c.user w.second c.is_user w.second_at in
       let listed : Contains w.second.boxes c.box =
       subst (λ (r : Reading). Contains r.boxes c.box) user c.has_box in
       let by = names_by c.box (label_in c.child) c.names in

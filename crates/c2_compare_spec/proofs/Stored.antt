@@ -1,7 +1,7 @@
 -- A box tree that is a store of manifests, and what these are read as: labels differ, a box is found by its
 -- label, and equal contents are seen alike.
 use Rattle.std.proofs.Common.{◌≡◌, ◌≢◌, inl, inr, ℕ, zero, suc, ◌<◌, true, false, List, [], ◌∷◌, ◌++◌, map, length, Option, Some, None, unwrap_or, Contains, slice_get, refl, sym, ap, ◌∙◌, subst, arith, eqb}
-use Rattle.std.specs.List.{AllByRecursion, AllZip, find, flat_map}
+use Rattle.std.specs.List.{AllByRecursion, find, flat_map}
 use Rattle.std.specs.Option.{option_map}
 use Rattle.std.proofs.lemmas.Bool.Decides.{Decides-eqb}
 use Rattle.std.proofs.lemmas.Option.{same_Some}
@@ -16,10 +16,13 @@ use Rattle.c2_rules.specs.Chains.{label_in}
 use Rattle.c2_rules.specs.Readings.{ReadBox, IsReadBox, Reading, IsReading, AreReadings}
 use Rattle.c2_rules.specs.Rules.{is_labelled, box_with}
 use Rattle.c2_compare_spec.proofs.Facts.{TreeFacts, SeenAlike}
-use Rattle.c2_compare_spec.proofs.Holding.{holds}
 use Rattle.c2_compare_spec.proofs.Labels.{superboxes_apart, inside_apart}
-use Rattle.c2_compare_spec.proofs.Lists.{never, member_at, place_of_member, find_says, find_only, filter_says, none_cons, none_at, none_append, none_flat}
+use Rattle.c2_compare_spec.proofs.Lists.{find_says, find_only, filter_says, none_cons, none_at, none_append, none_flat}
 use Rattle.c2_compare_spec.proofs.Trees.{StandsSuper, is_super, contents_seen, contents_manifest}
+use Rattle.c2_lemmas.proofs.Bools.{not_false_is_true, true_and_false}
+use Rattle.c2_lemmas.proofs.Each.{at_contains, contains_at, partner_at, zip_length}
+use Rattle.c2_lemmas.proofs.Lists.{mapped_length}
+use Rattle.c2_lemmas.proofs.Options.{mapped_from}
 
 -- This legal tree is a store, and its manifests are read so.
 pub record IsStored (t : Tree) (rs : List Reading) : Type 0 where
@@ -44,35 +47,6 @@ mapped_at : {X Y : Type 0} (f : X → Y) (xs : List X) (n : ℕ) (y : Y) → sli
 mapped_at f [] n y e = absurd cc
 mapped_at f (x ∷ xs) zero y e = (x, refl, same_Some (f x) y e)
 mapped_at f (x ∷ xs) (suc n) y e = mapped_at f xs n y e
-
--- what may be missing and is made of something
-mapped_option : {X Y : Type 0} (f : X → Y) (o : Option X) (y : Y) → option_map f o ≡ Some y
-    → (x : X) × (o ≡ Some x) × (f x ≡ y)
-mapped_option f None y e = absurd cc
-mapped_option f (Some x) y e = (x, refl, same_Some (f x) y e)
-
--- of two lists that go together, what stands at a place of the second goes with what stands there in the
--- first
-partner_at : {A B : Type 0} (R : A → B → Type 0) (xs : List A) (ys : List B) (n : ℕ) (y : B) → AllZip R xs ys
-    → slice_get ys n ≡ Some y → (x : A) × (slice_get xs n ≡ Some x) × R x y
-partner_at R [] [] n y h e = absurd cc
-partner_at R [] (z ∷ ys) n y h e = absurd h
-partner_at R (x ∷ xs) [] n y h e = absurd h
-partner_at R (x ∷ xs) (z ∷ ys) zero y h e = (x, refl, subst (R x) (same_Some z y e) h.0)
-partner_at R (x ∷ xs) (z ∷ ys) (suc n) y h e = partner_at R xs ys n y h.1 e
-
--- they have one length
-partner_length : {A B : Type 0} (R : A → B → Type 0) (xs : List A) (ys : List B) → AllZip R xs ys
-    → length xs ≡ length ys
-partner_length R [] [] h = refl
-partner_length R [] (z ∷ ys) h = absurd h
-partner_length R (x ∷ xs) [] h = absurd h
-partner_length R (x ∷ xs) (z ∷ ys) h = ap suc (partner_length R xs ys h.1)
-
--- and so have a list and what is made of it
-mapped_length : {X Y : Type 0} (f : X → Y) (xs : List X) → length (map f xs) ≡ length xs
-mapped_length f [] = refl
-mapped_length f (x ∷ xs) = ap suc (mapped_length f xs)
 
 -- ---- the tests of a store
 
@@ -102,7 +76,7 @@ count_some t e =
     none_at (λ (x : StoreTest). x.fails) (count_tests (length (superboxes t 0))) (parts_hold t e).1 0 _
     refl in
     let some : length (superboxes t 0) ≢ 0 =
-    λ z. never (eqb (length (superboxes t 0)) 0) ((Decides-eqb (length (superboxes t 0)) 0).1 z) test in
+    λ z. true_and_false (eqb (length (superboxes t 0)) 0) ((Decides-eqb (length (superboxes t 0)) 0).1 z) test in
     omega (arith, some)
 
 -- a label that a manifest may have is there and isn't empty
@@ -112,7 +86,7 @@ label_there None e = absurd cc
 label_there (Some label) e = (
   label,
   refl,
-  λ empty. never (is_manifest_label (Some label)) e
+  λ empty. true_and_false (is_manifest_label (Some label)) e
       (ap (λ l. is_manifest_label (Some l)) empty),
 )
 
@@ -123,7 +97,7 @@ has_label t i e c =
     let own =
     none_flat (λ (x : StoreTest). x.fails) (manifest_tests t) (superboxes t 0) (parts_hold t e).0 i c in
     label_there (label_at t i)
-    (holds (is_manifest_label (label_at t i))
+    (not_false_is_true (is_manifest_label (label_at t i))
     (none_at (λ (x : StoreTest). x.fails) (manifest_tests t i) own 1 _ refl))
 
 -- ---- superboxes
@@ -134,11 +108,11 @@ super_in t k i lt c =
     let f = filter_says (is_superbox t) (child_indices t k) i c in
     is_super t i (all_member (λ j. j < tree_count t) (child_indices t k) i (children_inside t k lt) f.0) f.1
 
--- and so does one inside a box that may be missing
+-- a superbox inside a box that may be missing stands in the tree
 super_inside : (t : Tree) (o : Option ℕ) → ((j : ℕ) → o ≡ Some j → j < tree_count t) → (p k : ℕ)
     → slice_get (inside t o) p ≡ Some k → StandsSuper t k
 super_inside t None lt p k e = absurd (cc (e))
-super_inside t (Some j) lt p k e = super_in t j k (lt j refl) (member_at (superboxes t j) p k e)
+super_inside t (Some j) lt p k e = super_in t j k (lt j refl) (contains_at (superboxes t j) p k e)
 
 -- ---- one store
 
@@ -162,7 +136,7 @@ module _ (t : Tree) (rs : List Reading) (h : IsStored t rs) where
       let w = mapped_at (manifest_boxes t) (superboxes t 0) n q.0 q.1 in
       let reading : IsReading (manifest_at t (manifest_boxes t w.0)) r =
       subst (λ m. IsReading m r) (sym (ap (manifest_at t) w.2 ∙ q.2)) p.2 in
-      let member = member_at (superboxes t 0) n w.0 w.1 in
+      let member = contains_at (superboxes t 0) n w.0 w.1 in
       let l = has_label t w.0 h.accepted member in
       record {
         index = w.0;
@@ -175,7 +149,7 @@ module _ (t : Tree) (rs : List Reading) (h : IsStored t rs) where
         is_label = ap (λ (m : Manifest). unwrap_or m.label []) reading.same ∙ ap (λ o. unwrap_or o []) l.1;
       }
 
-  -- its assertion store, where it has one, is a box of the tree
+  -- the assertion store of a manifest, where it has one, is a box of the tree
   store_inside : (n : ℕ) (r : Reading) (a : Placed n r) (j : ℕ)
       → assertion_store_in t (superboxes t a.index) ≡ Some j → j < tree_count t
   store_inside n r a j e =
@@ -217,7 +191,7 @@ module _ (t : Tree) (rs : List Reading) (h : IsStored t rs) where
       → b.boxed.label ≡ Some label → box_with r label ≡ Some b
   one_box n r e b c label labelled =
       let a = placed n r e in
-      let p = place_of_member r.boxes b c in
+      let p = at_contains r.boxes b c in
       let x = box_placed n r a p.0 b p.1 in
       find_only (is_labelled label) r.boxes p.0 b p.1 (is_given_back b.boxed.label label labelled)
       (λ q y at given.
@@ -235,7 +209,7 @@ module _ (t : Tree) (rs : List Reading) (h : IsStored t rs) where
         let same : length (superboxes t 0) ≡ length rs =
         sym (mapped_length (manifest_boxes t) (superboxes t 0))
         ∙ sym (mapped_length (manifest_at t) (store_of t))
-        ∙ partner_length IsReading (manifests_of t) rs h.readings in
+        ∙ zip_length IsReading (manifests_of t) rs h.readings in
         subst (λ k. 0 < k) same count;
     differ = differ;
     named = λ n r e empty. let a = placed n r e in a.some (sym a.is_label ∙ empty);
@@ -249,7 +223,7 @@ module _ (t : Tree) (rs : List Reading) (h : IsStored t rs) where
       → (i : ℕ) × StandsSuper t i × (b ≡ superbox_at t i)
   signature_placed n r e b is =
       let a = placed n r e in
-      let x = mapped_option (superbox_at t) (signature_in t (superboxes t a.index)) b
+      let x = mapped_from (superbox_at t) (signature_in t (superboxes t a.index)) b
       (sym (ap (λ (m : Manifest). m.signature) a.reading.same) ∙ is) in (
         x.0,
         super_in t a.index x.0 a.super.stands.inside (find_says _ (superboxes t a.index) x.0 x.1).0,
@@ -275,8 +249,8 @@ module _ (t u : Tree) (rs ss : List Reading) (h : IsStored t rs) (k : IsStored u
     boxes = λ n m r s e f b c in_r in_s same.
         let a = placed t rs h n r e in
         let z = placed u ss k m s f in
-        let p = place_of_member r.boxes b in_r in
-        let q = place_of_member s.boxes c in_s in
+        let p = at_contains r.boxes b in_r in
+        let q = at_contains s.boxes c in_s in
         let x = box_placed t rs h n r a p.0 b p.1 in
         let y = box_placed u ss k m s z q.0 c q.1 in
         one_seen b.boxed c.boxed x.index y.index x.super y.super x.is y.is same;

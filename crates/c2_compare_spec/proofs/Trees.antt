@@ -112,7 +112,7 @@ pub record SameTree (t u : Tree) (i j : ℕ) : Type 0 where
   pub first : Stands t i tree
   pub second : Stands u j tree
 
--- their boxes are one
+-- the boxes of one tree at an index of each of two trees are one
 same_box : (t u : Tree) (i j : ℕ) → SameTree t u i j → (box_at t i).box ≡ (box_at u j).box
 same_box t u i j s = s.first.box ∙ sym s.second.box
 
@@ -135,7 +135,7 @@ same_more t u i j is js false false e one rest = rest
 same_more t u i j is js true false e one rest = absurd (cc (e))
 same_more t u i j is js false true e one rest = absurd (cc (e))
 
--- those that pass a test on boxes are the same
+-- of two lists of the same trees, the members that pass a test on boxes are the same trees
 same_filtered : (t u : Tree) (p : AnyBox → Bool) (is js : List ℕ) → AllZip (SameTree t u) is js
     → AllZip (SameTree t u) (filter (λ i. p (box_at t i).box) is) (filter (λ j. p (box_at u j).box) js)
 same_filtered t u p [] [] h = tt
@@ -146,7 +146,7 @@ same_filtered t u p (i ∷ is) (j ∷ js) h =
     (p (box_at t i).box) (p (box_at u j).box)
     (ap p (same_box t u i j h.0)) h.0 (same_filtered t u p is js h.1)
 
--- both are there and the same, or neither is there
+-- boxes at two places that may be missing are both there and the same, or neither is there
 abbrev SameOption : Tree → Tree → Option ℕ → Option ℕ → Type 0
 SameOption t u None None = Unit {0}
 SameOption t u None (Some j) = ⊥
@@ -184,7 +184,7 @@ superboxes_are t i d us h =
     (filter (is_superbox t) (indices_from (i + 2) us)))
     (ap (λ x. is_some (any_uuid x)) h.description)
 
--- they are the same
+-- the superboxes of two superboxes with the same boxes are the same
 same_superboxes : (t u : Tree) (i j : ℕ) (d : Description) (us : Trees) → HasInside t i d us
     → HasInside u j d us
     → AllZip (SameTree t u) (superboxes t i) (superboxes u j)
@@ -247,7 +247,7 @@ superbox_is t i w d us s =
     record { label = d.label; contents = description_bytes d ++ trees_bytes us; item = o })
     (item_is t i d us (has_inside t i w d us s))
 
--- the same tree is seen as the same box
+-- a tree that stands in two trees is seen as the same box
 same_seen : (t u : Tree) (i j : ℕ) → SameTree t u i j → superbox_at t i ≡ superbox_at u j
 same_seen t u i j s = by s.tree s.first s.second
   where
@@ -273,7 +273,7 @@ all_seen t u (i ∷ is) (j ∷ js) h =
     ap (λ (b : Superbox). b ∷ map (superbox_at t) is) (same_seen t u i j h.0)
     ∙ ap (λ (bs : List Superbox). superbox_at u j ∷ bs) (all_seen t u is js h.1)
 
--- and so is one that may be missing
+-- trees that are the same, or both missing, are seen as one box
 option_seen : (t u : Tree) (o p : Option ℕ) → SameOption t u o p
     → option_map (superbox_at t) o ≡ option_map (superbox_at u) p
 option_seen t u None None h = refl
@@ -386,7 +386,7 @@ one_inside t u i j legal legal' p q e =
     bytes in
     (r.0, trees_once p.kids q.kids ((box_at t i).depth + 1) ((box_at u j).depth + 1) h.3 k.3 r.1)
 
--- they are seen alike
+-- superboxes with equal contents are seen alike
 pub contents_seen : (t u : Tree) (i j : ℕ) → IsLegalTree 1 t → IsLegalTree 1 u → StandsSuper t i
     → StandsSuper u j
     → any_contents (box_at t i).box ≡ any_contents (box_at u j).box → superbox_at t i ≡ superbox_at u j
@@ -396,7 +396,7 @@ contents_seen t u i j legal legal' p q e =
     ∙ ap (λ d. seen_of d p.kids) r.0 ∙ ap (seen_of q.description) r.1
     ∙ sym (superbox_is u j q.wide q.description q.kids q.stands)
 
--- and are the same manifest
+-- boxes with the same contents are the same manifest
 pub contents_manifest : (t u : Tree) (i j : ℕ) → IsLegalTree 1 t → IsLegalTree 1 u → StandsSuper t i
     → StandsSuper u j
     → any_contents (box_at t i).box ≡ any_contents (box_at u j).box

@@ -2,12 +2,12 @@
 use Rattle.std.proofs.Common.{◌≡◌, ℕ, ◌<◌, Bool, true, false, not, cond, ltb, List, [], ◌∷◌, ◌++◌, Option, Some, None, Result, length, take, slice_get, refl, sym, ap, ◌∙◌, subst}
 use Rattle.std.specs.Option.{option_map, option_map_or}
 use Rattle.std.proofs.lemmas.Bool.Decides.{Decides-ltb}
-use Rattle.std.proofs.lemmas.Option.{same_Some, slice_get_within}
+use Rattle.std.proofs.lemmas.Option.{slice_get_within}
 use Rattle.std.proofs.lemmas.Slice.Eq.{bytes_eq-Decides}
 use Rattle.c2_base.specs.declared.values.Question.{Question}
 use Rattle.c2_spec.specs.C2pa.Assertion.{manifest_named}
 use Rattle.c2_spec.specs.C2pa.Manifest.{Superbox, is_given}
-use Rattle.c2_spec.specs.C2pa.Sign1.{SignParts, SpellsMessage, question_of}
+use Rattle.c2_spec.specs.C2pa.Sign1.{question_of}
 use Rattle.c2_spec.specs.C2pa.Uri.{assertion}
 use Rattle.c2_spec.specs.Cbor.Item.{Item}
 use Rattle.c2_spec.specs.Digest.{alg_named}
@@ -69,8 +69,10 @@ use Rattle.c2_rules.specs.declared.parsed.Parsed.{Parsed}
 use Rattle.c2_rules.specs.declared.parsed.Parsed.TheVariants.{NoItem, NoForm, Value}
 use Rattle.c2_compare_spec.specs.ChainContent.{claim_bytes_of}
 use Rattle.c2_compare_spec.proofs.Facts.{IsApproved, HasBox, EntryFact, BoxFact, is_unredactable, RedactionFact, BySignature, Binds, NamedFact, IngredientFact, ManifestFacts}
-use Rattle.c2_compare_spec.proofs.Holding.{hold_front, hold_back, hold_each, hold_over, hold_place, holds, there, there_too, second_fails, neither_first, neither_second}
-use Rattle.c2_compare_spec.proofs.Lists.{one_of}
+use Rattle.c2_compare_spec.proofs.Holding.{hold_front, hold_back, hold_each, hold_over, hold_place, there, there_too, second_fails, neither_first, neither_second}
+use Rattle.c2_lemmas.proofs.Bools.{not_false_is_true}
+use Rattle.c2_lemmas.proofs.Options.{mapped_from, one_value}
+use Rattle.c2_rules.proofs.OneAnswer.{message_of}
 
 -- ---- the claim, the signature and the verdict
 
@@ -82,12 +84,6 @@ bytes_of read (Some bytes) p x h e = (bytes, refl)
 bytes_of read None NoItem x h e = absurd cc
 bytes_of read None NoForm x h e = absurd h
 bytes_of read None (Value y) x h e = absurd h
-
--- what is read as a message has bytes that spell it
-message_of : (o : Option (List ℕ)) (p : SignParts) → IsMessageOf o (Some p)
-    → (bytes : List ℕ) × (o ≡ Some bytes) × SpellsMessage bytes p
-message_of None p h = absurd h
-message_of (Some bytes) p h = (bytes, refl, h)
 
 -- a verdict that fails no condition is approval
 approves : (r : Reading) (v : Verdict) → AllHold (verdict_tests r (Some v)) → v ≡ verdict.Approved
@@ -103,7 +99,7 @@ is_approved : (said : Question → Verdict) (r : Reading) → IsReading r.manife
 is_approved said r reading claims verdicts =
     let c = there (claim_in r) (claims 4 _ refl) in
     let names : names_signature r.manifest (claim_in r) ≡ true =
-    holds (names_signature r.manifest (claim_in r)) (claims 5 _ refl) in
+    not_false_is_true (names_signature r.manifest (claim_in r)) (claims 5 _ refl) in
     let m = there r.message (claims 6 _ refl) in
     let b = bytes_of _ (claim_bytes_of r) r.claim c.0 reading.claim c.1 in
     let i = message_of (signature_item r.manifest) m.0
@@ -145,12 +141,6 @@ contents_say hash r ref alg o known h =
     let p = from_passes (λ (bytes : List ℕ). has_digest hash r ref.alg bytes ref.hash) o h in
     (p.0, p.1, digest_says hash (alg_named (alg_in r ref.alg)) alg p.0 ref.hash known p.2)
 
--- what is made of a value that may be missing is made of one
-made_of : {X Y : Type 0} (f : X → Y) (o : Option X) (y : Y) → option_map f o ≡ Some y
-    → (x : X) × (o ≡ Some x) × (f x ≡ y)
-made_of f None y e = absurd cc
-made_of f (Some x) y e = (x, refl, same_Some (f x) y e)
-
 -- ---- entries
 
 -- the box of an entry that passes is there and has the digest
@@ -160,7 +150,7 @@ box_says : (hash : Alg → List ℕ → List ℕ) (r : Reading) (e : Ref) (label
 box_says hash r e label alg known h =
     let c = contents_say hash r e alg (option_map (λ (b : ReadBox). b.boxed.contents) (box_with r label))
     known h in
-    let b = made_of (λ (b : ReadBox). b.boxed.contents) (box_with r label) c.0 c.1 in
+    let b = mapped_from (λ (b : ReadBox). b.boxed.contents) (box_with r label) c.0 c.1 in
     record { box = b.0; has_box = b.1; digested = ap (hash alg) b.2 ∙ c.2 }
 
 -- an entry whose conditions hold
@@ -178,7 +168,7 @@ entry_fact hash rs n r k e h = by (entry_label r.manifest e) refl h
         → EntryFact hash rs n r e
     by None is g = absurd (let bad = g 0 _ refl in cc (bad))
     by (Some label) is g =
-        let known = there_too (alg_named (alg_in r e.alg)) (holds (is_known r e.alg) (g 2 _ refl)) in
+        let known = there_too (alg_named (alg_in r e.alg)) (not_false_is_true (is_known r e.alg) (g 2 _ refl)) in
         record {
           label = label;
           is_label = is;
@@ -189,7 +179,7 @@ entry_fact hash rs n r k e h = by (entry_label r.manifest e) refl h
               second_fails (not (is_redacted rs n label)) (not (box_has_digest hash r e (box_with r label)))
               (ap not kept) (g 5 _ refl) in
               box_says hash r e label known.0 known.1
-              (holds (box_has_digest hash r e (box_with r label)) has);
+              (not_false_is_true (box_has_digest hash r e (box_with r label)) has);
         }
 
 -- ---- boxes
@@ -198,7 +188,7 @@ entry_fact hash rs n r k e h = by (entry_label r.manifest e) refl h
 box_fact : (r : Reading) (b : ReadBox) → is_undeclared r b.boxed.label ≡ false → BoxFact r b
 box_fact r b h =
     let p = from_passes (lists_label r.manifest (entries_in r)) b.boxed.label
-    (holds (passes_some (lists_label r.manifest (entries_in r)) b.boxed.label) h) in
+    (not_false_is_true (passes_some (lists_label r.manifest (entries_in r)) b.boxed.label) h) in
     let e = from_any (λ (x : Ref). is_given (entry_label r.manifest x) p.0) (entries_in r) p.2 in
     record {
       label = p.0;
@@ -238,7 +228,7 @@ by_signature : (hash : Alg → List ℕ → List ℕ) (r child : Reading) (ref :
 by_signature hash r child ref known h =
     let alg = there_too (alg_named (alg_in r ref.alg)) known in
     let c = contents_say hash r ref alg.0 (signature_contents child) alg.1 h in
-    let b = made_of (λ (x : Superbox). x.contents) child.manifest.signature c.0 c.1 in
+    let b = mapped_from (λ (x : Superbox). x.contents) child.manifest.signature c.0 c.1 in
     record { alg = alg.0; known = alg.1; box = b.0; has_box = b.1; digested = ap (hash alg.0) b.2 ∙ c.2 }
 
 -- a child by whose standing the conditions hold is bound
@@ -248,19 +238,19 @@ binds_by : (hash : Alg → List ℕ → List ℕ) (r child : Reading) (g : Ingre
     → Binds hash r child g sign
 binds_by hash r child g ref uri (Some sign) true is h =
     by_signature hash r child sign
-    (holds (is_known r sign.alg)
+    (not_false_is_true (is_known r sign.alg)
     (neither_second (not (is_known r ref.alg)) (not (is_known r sign.alg)) (h 0 _ refl)))
-    (holds (has_contents hash r sign (signature_contents child)) (h 1 _ refl))
+    (not_false_is_true (has_contents hash r sign (signature_contents child)) (h 1 _ refl))
 binds_by hash r child g ref uri (Some sign) false is h =
     by_signature hash r child sign
-    (holds (is_known r sign.alg)
+    (not_false_is_true (is_known r sign.alg)
     (neither_second (not (is_known r ref.alg)) (not (is_known r sign.alg)) (h 0 _ refl)))
-    (holds (has_contents hash r sign (signature_contents child)) (h 1 _ refl))
+    (not_false_is_true (has_contents hash r sign (signature_contents child)) (h 1 _ refl))
 binds_by hash r child g ref uri None true is h = absurd (let bad = h 1 _ refl in cc (bad))
 binds_by hash r child g ref uri None false is h =
     let alg =
     there_too (alg_named (alg_in r ref.alg))
-    (holds (is_known r ref.alg) (neither_first (not (is_known r ref.alg)) false (h 0 _ refl))) in
+    (not_false_is_true (is_known r ref.alg) (neither_first (not (is_known r ref.alg)) false (h 0 _ refl))) in
     record {
       reference = ref;
       is_reference = is;
@@ -268,7 +258,7 @@ binds_by hash r child g ref uri None false is h =
       known = alg.1;
       digested =
           digest_says hash (alg_named (alg_in r ref.alg)) alg.0 child.manifest.contents ref.hash alg.1
-          (holds (has_digest hash r ref.alg child.manifest.contents ref.hash) (h 2 _ refl));
+          (not_false_is_true (has_digest hash r ref.alg child.manifest.contents ref.hash) (h 2 _ refl));
     }
 
 -- the manifest that an ingredient names stands earlier, and is bound
@@ -292,7 +282,7 @@ named_fact hash rs n r g ref uri form_uri label is order stands =
           earlier = lt;
           child = child;
           at_place = at;
-          labelled = ap label_in (one_of (slice_get rs m) child p.0 at p.1) ∙ p.2;
+          labelled = ap label_in (one_value (slice_get rs m) child p.0 at p.1) ∙ p.2;
           binds = binds_by hash r child g ref uri g.signature (is_touched rs m) is st;
         }
 
@@ -401,7 +391,7 @@ manifest_holds hash said rs n r at reached h =
     (subst (λ b. AllHold (cond b (tests_of (judged_tests hash said) rs n (slice_get rs n)) [])) reached
     (hold_place (place_tests (judged_tests hash said) rs) (length rs) n h (slice_get_within rs n r at)))
 
--- and those of the rules after the verdict
+-- the rules after the verdict hold of a manifest where all of its rules do
 pub rest_of : (hash : Alg → List ℕ → List ℕ) (said : Question → Verdict) (rs : List Reading) (n : ℕ)
     (r : Reading)
     → AllHold (manifest_tests hash (option_map said (question_in r)) (seen_at rs n r))
@@ -412,7 +402,7 @@ rest_of hash said rs n r h =
     (hold_back verdicts (rest_tests hash (seen_at rs n r))
     (hold_back (claim_tests r) (verdicts ++ rest_tests hash (seen_at rs n r)) h))
 
--- what they say
+-- what the rules of a reached manifest say
 pub manifest_facts : (hash : Alg → List ℕ → List ℕ) (said : Question → Verdict) (rs : List Reading) (n : ℕ)
     (r : Reading)
     → IsReading r.manifest r

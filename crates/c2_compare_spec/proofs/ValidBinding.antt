@@ -24,9 +24,10 @@ use Rattle.c2_rules.specs.Rules.{alg_in, is_known, has_digest, box_with, label_k
 use Rattle.c2_rules.specs.Seen.{Seen, seen_at}
 use Rattle.c2_rules.specs.Tests.{over_all, AllHold}
 use Rattle.c2_compare_spec.proofs.Facts.{TreeFacts, BindingFacts, FileFacts}
-use Rattle.c2_compare_spec.proofs.Holding.{hold_head, hold_front, hold_back, holds, there_too, first_fails}
-use Rattle.c2_compare_spec.proofs.Lists.{never, filter_says, filter_keeps}
+use Rattle.c2_compare_spec.proofs.Holding.{hold_head, hold_front, hold_back, there_too, first_fails}
+use Rattle.c2_compare_spec.proofs.Lists.{filter_says, filter_keeps}
 use Rattle.c2_compare_spec.proofs.Valid.{rest_of, digest_says, manifest_holds, manifest_facts}
+use Rattle.c2_lemmas.proofs.Bools.{not_false_is_true, true_and_false}
 
 -- ---- the one binding that is listed
 
@@ -37,7 +38,7 @@ single [] e f = absurd cc
 single (x ∷ []) e f = (x, refl)
 single (x ∷ y ∷ more) e f =
     let lt : 1 < length (x ∷ y ∷ more) = omega arith in
-    never (ltb 1 (length (x ∷ y ∷ more))) ((Decides-ltb 1 (length (x ∷ y ∷ more))).1 lt) f
+    true_and_false (ltb 1 (length (x ∷ y ∷ more))) ((Decides-ltb 1 (length (x ∷ y ∷ more))).1 lt) f
 
 -- The claim lists one binding of a known kind.
 record OneBinding (r : Reading) : Type 0 where
@@ -131,7 +132,7 @@ binding_fact hash media s r o has h =
         (subst (λ z. IsLabelledBinding media z has.item s.binding) label_is has.is) in
         let w = has_value media r o.label v has.item has.is_item is in
         let box = payload_box r o.label w.bytes label_is w.has_bytes in
-        let known = there_too (alg_named (alg_in r v.alg)) (holds (is_known r v.alg) (g 0 _ refl)) in
+        let known = there_too (alg_named (alg_in r v.alg)) (not_false_is_true (is_known r v.alg) (g 0 _ refl)) in
         record {
           entry = o.entry;
           lists = o.lists;
@@ -153,7 +154,7 @@ binding_fact hash media s r o has h =
           known = known.1;
           digested =
               digest_says hash (alg_named (alg_in r v.alg)) known.0 v.text v.hash known.1
-              (holds (has_digest hash r v.alg v.text v.hash) (g 2 _ refl));
+              (not_false_is_true (has_digest hash r v.alg v.text v.hash) (g 2 _ refl));
         }
 
 -- ---- the file
@@ -166,7 +167,7 @@ module _ (hash : Alg → List ℕ → List ℕ) (said : Question → Verdict) (m
       (chain_tests (judged_tests hash said) s.readings ++ last_tests hash s.binding (active_in s.readings))
   behind_first = hold_back (active_tests (active_in s.readings)) _ valid
 
-  -- those of the reached manifests
+  -- the conditions of the reached manifests hold
   chain_holds : AllHold (chain_tests (judged_tests hash said) s.readings)
   chain_holds =
       hold_front (chain_tests (judged_tests hash said) s.readings)

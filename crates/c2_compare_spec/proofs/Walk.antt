@@ -21,9 +21,11 @@ use Rattle.c2_compare_spec.specs.Evidence.{ListPair, do_differ}
 use Rattle.c2_spec.proofs.OneMessage.{OneItem}
 use Rattle.c2_compare_spec.proofs.Facts.{SeenAlike, StoreFacts, IsShown}
 use Rattle.c2_compare_spec.proofs.Links.{one_claim}
-use Rattle.c2_compare_spec.proofs.Lists.{bool_cases, one_of, never, FoundBelow, found_downward, none_downward}
+use Rattle.c2_compare_spec.proofs.Lists.{bool_cases, FoundBelow, found_downward, none_downward}
 use Rattle.c2_compare_spec.proofs.Pairs.{found_reached}
 use Rattle.c2_compare_spec.proofs.Steps.{ingredients_real, step, step_back}
+use Rattle.c2_lemmas.proofs.Bools.{true_and_false}
+use Rattle.c2_lemmas.proofs.Options.{one_value}
 
 -- the last place of a list holds something
 last_at : {X : Type 0} (xs : List X) (n : ℕ) → n + 1 ≡ length xs → (x : X) × (slice_get xs n ≡ Some x)
@@ -73,7 +75,7 @@ module _ (law : OneItem) (hash : Alg → List ℕ → List ℕ) (said : Question
         second_reached =
             (reached_decides ss g.tree.differ (length ss - 1)).1 (active (length ss - 1) end_second);
         active = active_first ∙ sym active_second;
-        label = λ other. never (is_active rs (length rs - 1)) active_first other;
+        label = λ other. true_and_false (is_active rs (length rs - 1)) active_first other;
         claims = sym (ap (option_and_then claim_bytes_of) a.1) ∙ claims
             ∙ ap (option_and_then claim_bytes_of) b.1;
       }
@@ -83,7 +85,7 @@ module _ (law : OneItem) (hash : Alg → List ℕ → List ℕ) (said : Question
   root_first n e = let at : length rs - 1 ≡ n =
       omega arith in (length ss - 1, subst (λ k. Correspond rs ss k (length ss - 1)) at root)
 
-  -- and the other way round
+  -- the active manifest of the second store corresponds to one of the first
   root_second : (m : ℕ) → m + 1 ≡ length ss → (n : ℕ) × Correspond rs ss n m
   root_second m e = let at : length ss - 1 ≡ m =
       omega arith in (length rs - 1, subst (λ k. Correspond rs ss (length rs - 1) k) at root)
@@ -130,7 +132,7 @@ module _ (law : OneItem) (hash : Alg → List ℕ → List ℕ) (said : Question
       let r = step law hash said rs ss f g alike k w.0 w.1 (none_at k w.0 w.1) n c in
       (r.0, r.1)
 
-  -- and each of the second
+  -- each reached manifest of the second store corresponds to one of the first
   pub back : (m : ℕ) → Reached ss m → (n : ℕ) × Correspond rs ss n m
   back m (active _ e) = root_second law hash said rs ss f g alike claims m e
   back m (below k _ up c) =
@@ -149,7 +151,7 @@ module _ (law : OneItem) (hash : Alg → List ℕ → List ℕ) (said : Question
       let q = reaches_forth c n rest r.0 r.1 in
       (q.0, q.1, through b r.0 q.0 r.2 q.2)
 
-  -- and the other way round
+  -- what the counterpart of a manifest reaches corresponds to what the manifest reaches
   reaches_back : (b m : ℕ) → Reaches ss b m → (a : ℕ) → Correspond rs ss a b
       → (n : ℕ) × Correspond rs ss n m × Reaches rs a n
   reaches_back b m (child _ _ c) a w =
@@ -170,12 +172,12 @@ module _ (law : OneItem) (hash : Alg → List ℕ → List ℕ) (said : Question
             omega arith
         | inr other ↦
             let same : w.second ≡ v.second =
-            one_of (slice_get ss m) w.second v.second w.second_at v.second_at in
+            one_value (slice_get ss m) w.second v.second w.second_at v.second_at in
             f.tree.differ n k w.first v.first w.first_at v.first_at
             (w.label (w.active ∙ other) ∙ ap label_in same ∙ sym (v.label (v.active ∙ other)))
       ]
 
-  -- and the other way round
+  -- one manifest of the second store at most corresponds to one of the first
   pub one_second : (n m k : ℕ) → Correspond rs ss n m → Correspond rs ss n k → m ≡ k
   one_second n m k w v =
       elim (bool_cases (is_active rs n)) [
@@ -184,7 +186,7 @@ module _ (law : OneItem) (hash : Alg → List ℕ → List ℕ) (said : Question
             let b : k + 1 ≡ length ss = (Decides-eqb (k + 1) (length ss)).0 (sym v.active ∙ last) in
             omega arith
         | inr other ↦
-            let same : w.first ≡ v.first = one_of (slice_get rs n) w.first v.first w.first_at v.first_at in
+            let same : w.first ≡ v.first = one_value (slice_get rs n) w.first v.first w.first_at v.first_at in
             g.tree.differ m k w.second v.second w.second_at v.second_at
             (sym (w.label other) ∙ ap label_in same ∙ v.label other)
       ]
@@ -198,11 +200,11 @@ module _ (law : OneItem) (hash : Alg → List ℕ → List ℕ) (said : Question
       let v = forth r.place r.reached in
       let x = reaches_forth r.place n r.reaches v.0 v.1 in
       let place : x.0 ≡ m = one_second n x.0 m x.1 w in
-      let target : r.target ≡ w.first = one_of (slice_get rs n) r.target w.first r.at_target w.first_at in
+      let target : r.target ≡ w.first = one_value (slice_get rs n) r.target w.first r.at_target w.first_at in
       let name : label_in r.target ≡ label_in w.second =
       ap label_in target ∙ w.label (reached_inactive rs r.place n r.reaches) in
       let who : r.redactor ≡ v.1.first =
-      one_of (slice_get rs r.place) r.redactor v.1.first r.at_place v.1.first_at in
+      one_value (slice_get rs r.place) r.redactor v.1.first r.at_place v.1.first_at in
       let claim =
       ap (λ (z : Reading). z.claim) who ∙ one_claim law hash said rs ss f g alike r.place v.0 v.1 in
       record {
@@ -218,18 +220,18 @@ module _ (law : OneItem) (hash : Alg → List ℕ → List ℕ) (said : Question
         names = r.names ∙ ap (λ l. Some (record { manifest = Some l; target = assertion label })) name;
       }
 
-  -- and the other way round
+  -- what is redacted in the counterpart of a manifest is redacted in the manifest
   redacted_back : (n m : ℕ) → Correspond rs ss n m → (label : List ℕ) → IsRedacted ss m label
       → IsRedacted rs n label
   redacted_back n m w label r =
       let v = back r.place r.reached in
       let x = reaches_back r.place m r.reaches v.0 v.1 in
       let place : x.0 ≡ n = one_first x.0 n m x.1 w in
-      let target : r.target ≡ w.second = one_of (slice_get ss m) r.target w.second r.at_target w.second_at in
+      let target : r.target ≡ w.second = one_value (slice_get ss m) r.target w.second r.at_target w.second_at in
       let inactive : is_active rs n ≡ false = w.active ∙ reached_inactive ss r.place m r.reaches in
       let name : label_in r.target ≡ label_in w.first = ap label_in target ∙ sym (w.label inactive) in
       let who : r.redactor ≡ v.1.second =
-      one_of (slice_get ss r.place) r.redactor v.1.second r.at_place v.1.second_at in
+      one_value (slice_get ss r.place) r.redactor v.1.second r.at_place v.1.second_at in
       let claim =
       ap (λ (z : Reading). z.claim) who ∙ sym (one_claim law hash said rs ss f g alike v.0 r.place v.1) in
       record {
@@ -245,7 +247,7 @@ module _ (law : OneItem) (hash : Alg → List ℕ → List ℕ) (said : Question
         names = r.names ∙ ap (λ l. Some (record { manifest = Some l; target = assertion label })) name;
       }
 
-  -- the same labels are redacted in both
+  -- the labels that are redacted in a manifest are those that are redacted in its counterpart
   pub redacted_alike : (n m : ℕ) → Correspond rs ss n m → (label : List ℕ)
       → is_redacted rs n label ≡ is_redacted ss m label
   redacted_alike n m w label =
@@ -259,7 +261,7 @@ module _ (law : OneItem) (hash : Alg → List ℕ → List ℕ) (said : Question
               let first =
               (redacted_decides rs f.tree.differ n label).1
               (redacted_back n m w label ((redacted_decides ss g.tree.differ m label).0 second)) in
-              never (is_redacted rs n label) first neither
+              true_and_false (is_redacted rs n label) first neither
           | inr other ↦ neither ∙ sym other
         ]
       ]

@@ -55,8 +55,8 @@ pub record HaveDifferentClaims (hash : Alg → List ℕ → List ℕ) (said : Qu
   pub second_accepted : IsAccepted hash said second other
   pub differ : active_claim store.readings ≢ active_claim other.readings
 
--- Both are accepted with one active claim, and chain contents or covered texts differ: the first
--- difference is real evidence, of this kind and with this text.
+-- Both files are accepted with one active claim, and chain contents or covered texts differ: the first difference is real evidence, of this
+-- kind and with this text.
 pub record HaveEvidence (hash : Alg → List ℕ → List ℕ) (said : Question → Verdict)
     (first second : List ℕ) (kind : EvidenceKind) (text : List ℕ) : Type 0 where
   pub store : StoreReading
@@ -69,9 +69,9 @@ pub record HaveEvidence (hash : Alg → List ℕ → List ℕ) (said : Question 
   pub is_kind : kind ≡ evidence_kind pair.bound_by
   pub is_text : text ≡ evidence_text pair
 
--- Both are accepted with one active claim, and chain contents and covered texts are equal; the first file
--- has this summary. Pairs that lead to ingredients may differ all the same: signature boxes, and contents of
--- whole manifests, are no part of the chain content, so two of them under one digest aren't told.
+-- Both files are accepted with one active claim, and chain contents and covered texts are equal; the first file has this summary. Pairs
+-- that lead to ingredients may differ all the same: signature boxes, and contents of whole manifests, are no part of the chain content, so
+-- two of them under one digest aren't told.
 pub record IsSame (hash : Alg → List ℕ → List ℕ) (said : Question → Verdict)
     (first second : List ℕ) (summary : Summary) : Type 0 where
   pub store : StoreReading

@@ -15,7 +15,7 @@ pub enum Side {
 /// What two different lists have in common.
 #[derive(Clone, Copy, Debug, PartialEq, Eq)]
 pub enum EvidenceKind {
-    /// Their digest, by the algorithm that the first file names for its list.
+    /// The digest of both lists, by the algorithm that the first file names for its list.
     Digest,
 
     /// A signature that the judges approve over both, taken as claims.
@@ -32,11 +32,11 @@ pub enum Compared {
     /// Both files are accepted, and their active claims differ.
     DifferentClaims,
 
-    /// Both are accepted with one active claim, and yet chain contents or covered texts differ: two different
-    /// lists have one digest, or two different claims one signature.
+    /// Both files are accepted with one active claim, and yet chain contents or covered texts differ: two different lists have one digest,
+    /// or two different claims one signature.
     Evidence(EvidenceKind),
 
-    /// Both are accepted with one active claim, and chain contents and covered texts are equal. The summary is
-    /// that of the first file.
+    /// Both files are accepted with one active claim, and chain contents and covered texts are equal. The summary is that of the first
+    /// file.
     Same(Summary),
 }

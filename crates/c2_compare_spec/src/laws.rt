@@ -26,8 +26,6 @@ ghost use Rattle.c2_compare_spec.specs.Evidence.{ListPair, do_differ, IsReal};
 ghost use Rattle.c2_compare_spec.specs.Lists.{IsListOf, IsReachedAt};
 ghost use Rattle.c2_compare_spec.specs.declared.compared.Compared.{Compared as AnyCompared};
 
-use c2_cbor_spec::one_item;
-
 /// Equal claim bytes of reached manifests of accepted files are one claim, under one version. No signature covers the label that
 /// says the version, so it has to follow from the bytes.
 pub fn equal_claim_bytes_are_one_claim()
@@ -36,10 +34,7 @@ pub fn equal_claim_bytes_are_one_claim()
         → IsAccepted hash said second t → (n m : ℕ) (r q : AnyReading)
         → IsReachedAt s.readings n r → IsReachedAt t.readings m q
         → claim_bytes_of r ≡ claim_bytes_of q → HaveSameClaim r q }
-{
-    // Only the prover needs this law.
-    one_item();
-}
+{}
 
 /// The step. Where no pair differs that leads from a manifest to its ingredients, each of its children
 /// corresponds to a child of the manifest that it corresponds to, with equal claim bytes; and the other way
@@ -61,10 +56,7 @@ pub fn a_step_keeps_equal_claims()
         (first second : List ℕ) (s t : StoreReading) → HaveOneClaim hash said first second s t
         → (n m : ℕ) → Correspond s.readings t.readings n m → (p : ListPair)
         → find do_differ (ingredients_at s.readings t.readings n) ≡ Some p → IsReal hash said p }
-{
-    // Only the prover needs this law.
-    one_item();
-}
+{}
 
 /// The induction. The active manifests correspond; and where no pair differs that leads to ingredients, each
 /// reached manifest of either file corresponds to one of the other, in which the same labels are redacted.
@@ -85,10 +77,7 @@ pub fn each_reached_manifest_corresponds()
         → find do_differ (all_ingredients s.readings t.readings) ≡ None
         → (n m : ℕ) → Correspond s.readings t.readings n m → (label : List ℕ)
         → is_redacted s.readings n label ≡ is_redacted t.readings m label }
-{
-    // Only the prover needs this law.
-    one_item();
-}
+{}
 
 /// The first difference of two accepted files with one active claim is real: two different lists under one
 /// digest, or two different claims under one signature.
@@ -101,10 +90,7 @@ pub fn a_first_difference_is_real()
         (first second : List ℕ) (s t : StoreReading) → HaveOneClaim hash said first second s t
         → (p : ListPair) → first_difference s t ≡ Some p
         → IsListOf s p.left × IsListOf t p.right }
-{
-    // Only the prover needs this law.
-    one_item();
-}
+{}
 
 /// There is a first difference wherever chain contents or covered texts differ: without one they are equal.
 pub fn a_difference_is_found()
@@ -115,10 +101,7 @@ pub fn a_difference_is_found()
         (first second : List ℕ) (s t : StoreReading) → HaveOneClaim hash said first second s t
         → (AreSame s t → ⊥)
         → (p : ListPair) × (first_difference s t ≡ Some p) × IsReal hash said p }
-{
-    // Only the prover needs this law.
-    one_item();
-}
+{}
 
 /// Two accepted files with one active claim have equal chain contents and equal covered texts, or there is a
 /// first difference and it is real.
@@ -126,10 +109,7 @@ pub fn one_claim_binds_or_there_is_evidence()
     ensures { (hash : Alg → List ℕ → List ℕ) (said : Question → Verdict)
         (first second : List ℕ) (s t : StoreReading) → HaveOneClaim hash said first second s t
         → AreSame s t ⊎ ((p : ListPair) × (first_difference s t ≡ Some p) × IsReal hash said p) }
-{
-    // Only the prover needs this law.
-    one_item();
-}
+{}
 
 /// A file is accepted exactly where its check answers that every rule holds, with the summary that is counted
 /// of it.
@@ -163,10 +143,7 @@ pub fn each_comparison()
         → IsAnswer hash said first a → CheckAsks hash said first ps
         → CheckAsks hash said second qs
         → (all : List Question) × CompareAsks hash said first second all }
-{
-    // Only the prover needs this law.
-    one_item();
-}
+{}
 
 /// Two files that are opened as one thing at most come to one answer and one text, and to one list of
 /// questions. That each file is opened so is a law of `c2_validate` (`one_opening`).
@@ -179,7 +156,4 @@ pub fn one_comparison()
         (first second : List ℕ) → IsOpenedOnce first → IsOpenedOnce second
         → (ps qs : List Question) → CompareAsks hash said first second ps
         → CompareAsks hash said first second qs → ps ≡ qs }
-{
-    // Only the prover needs this law.
-    one_item();
-}
+{}

@@ -9,8 +9,9 @@ use Rattle.c2_jpegseg_survey.specs.Surveys.{IsSurveyCause}
 use Rattle.c2_spec.specs.Jpeg.Store.{IsJpegRefusal}
 use Rattle.c2_container.specs.Contained.{IsLocateCause}
 
--- of a JPEG
-pub jpeg_cause : (len before now : ℕ) (e : MediaError) → IsJpegRefusal len e → IsSurveyCause len before now e → IsLocateCause len before now e
+-- what an error of the search in a JPEG says of the file
+pub jpeg_cause : (len before now : ℕ) (e : MediaError) → IsJpegRefusal len e → IsSurveyCause len before now e
+    → IsLocateCause len before now e
 jpeg_cause len before now media.NotMedia r h = h
 jpeg_cause len before now (media.FileTooLarge n) r h = ((h.0, h.1), h.2)
 jpeg_cause len before now (media.Truncated n) r h = ((r, h.0), h.1)
@@ -25,7 +26,7 @@ jpeg_cause len before now media.TooManyBoxes r h = absurd r
 jpeg_cause len before now media.ReadFault r h = h
 jpeg_cause len before now media.NoMemory r h = tt
 
--- of root boxes
+-- what an error of a walk over root boxes says of the file
 pub roots_cause : (len before now : ℕ) (e : MediaError) → IsRootsCause len before now e → IsLocateCause len before now e
 roots_cause len before now media.NotMedia h = h
 roots_cause len before now (media.FileTooLarge n) h = ((h.0, h.1), h.2)
@@ -41,17 +42,20 @@ roots_cause len before now media.TooManyBoxes h = ((h.0, h.1), h.2)
 roots_cause len before now media.ReadFault h = h
 roots_cause len before now media.NoMemory h = tt
 
--- of C2PA boxes, after the root boxes were read
-pub store_cause : (len mid_len before mid now : ℕ) (e : MediaError) → mid_len ≡ len → mid ≡ before → len < FILE_LEN_LIMIT → IsStoreCause mid_len mid now e → IsLocateCause len before now e
+-- what an error of C2PA boxes says of the file, after the root boxes were read
+pub store_cause : (len mid_len before mid now : ℕ) (e : MediaError) → mid_len ≡ len → mid ≡ before
+    → len < FILE_LEN_LIMIT → IsStoreCause mid_len mid now e → IsLocateCause len before now e
 store_cause len mid_len before mid now media.NotMedia same count small h = absurd h
 store_cause len mid_len before mid now (media.FileTooLarge n) same count small h = absurd h
 store_cause len mid_len before mid now (media.Truncated n) same count small h = absurd h
 store_cause len mid_len before mid now (media.BadMarker n) same count small h = absurd h
 store_cause len mid_len before mid now (media.BadSegment n) same count small h = absurd h
 store_cause len mid_len before mid now (media.BadPacket n) same count small h = absurd h
-store_cause len mid_len before mid now (media.TwoStores n) same count small h = ((omega (arith, h.0, same), small), h.1 ∙ count)
+store_cause len mid_len before mid now (media.TwoStores n) same count small h =
+    ((omega (arith, h.0, same), small), h.1 ∙ count)
 store_cause len mid_len before mid now (media.BadBox n) same count small h = absurd h
-store_cause len mid_len before mid now (media.BadProvenanceBox n) same count small h = ((omega (arith, h.0, same), small), h.1 ∙ count)
+store_cause len mid_len before mid now (media.BadProvenanceBox n) same count small h =
+    ((omega (arith, h.0, same), small), h.1 ∙ count)
 store_cause len mid_len before mid now (media.StoreTooLarge n) same count small h = ((h.0, small), h.2 ∙ count)
 store_cause len mid_len before mid now media.TooManyBoxes same count small h = absurd h
 store_cause len mid_len before mid now media.ReadFault same count small h = subst (λ (n : ℕ). Rose n now) count h

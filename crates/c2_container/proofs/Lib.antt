@@ -1,3 +1,4 @@
 mod Causes
 mod Containers
 mod Finding
+pub mod TheLaws

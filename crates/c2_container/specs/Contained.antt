@@ -7,7 +7,7 @@ use Rattle.c2_base.specs.declared.media.Found.{Found}
 use Rattle.c2_base.specs.declared.media.MediaError.{MediaError}
 use Rattle.c2_base.specs.declared.media.MediaError.TheVariants.{NotMedia, FileTooLarge, Truncated, BadMarker, BadSegment, BadPacket, TwoStores, BadBox, BadProvenanceBox, StoreTooLarge, TooManyBoxes, ReadFault, NoMemory}
 use Rattle.c2_spec.specs.Container.{IsLocated, begins_jpeg, is_bmff}
-use Rattle.c2_spec.specs.Located.{Located, refusal, said}
+use Rattle.c2_spec.specs.Located.{Located, refusal, as_located}
 use Rattle.c2_bmff_boxes.specs.Roots.{AreRootsOf, FillSource}
 use Rattle.c2_jpegseg_survey.specs.Surveys.{HasPacketPoint, less_found, range_of}
 use Rattle.c2_jpegseg_survey.specs.declared.surveying.PacketPoint.{PacketPoint}
@@ -18,7 +18,7 @@ use Rattle.c2_container.specs.declared.types.Container.TheVariants.{Jpeg, Bmff}
 
 -- what an answer says of the file: nothing where the source failed or memory ran out
 abbrev pub said_of : Result Contained MediaError → Option Located
-said_of (Ok c) = said (Ok c.found)
+said_of (Ok c) = as_located (Ok c.found)
 said_of (Err e) = refusal e
 
 -- the file's container is this: of a BMFF file its root boxes
@@ -26,7 +26,7 @@ abbrev pub IsContainerOf : List ℕ → Container → Type 0
 IsContainerOf file Jpeg = begins_jpeg file ≡ true
 IsContainerOf file (Bmff roots) = (is_bmff file ≡ true) × AreRootsOf file roots
 
--- what is said is what the file is as a container, and nothing else is; the container is its own, and other packets go there in what is left of a
+-- what is as_located is what the file is as a container, and nothing else is; the container is its own, and other packets go there in what is left of a
 -- JPEG file without its store
 pub record IsSaid (file : List ℕ) (r : Result Contained MediaError) : Type 0 where
   pub located : IfSome (said_of r) (IsLocated file)

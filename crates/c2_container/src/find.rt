@@ -8,7 +8,7 @@ ghost use Rattle.c2_container.specs.Contained.{IsLocateCause, IsSaid, IsWithin};
 
 use crate::types::{Contained, Container};
 use c2_base::{Failed, MediaError, Source, fill_at};
-use c2_bmff_boxes::{a_bmff_file_comes_to_one_thing, roots};
+use c2_bmff_boxes::roots;
 use c2_jpegseg_survey::survey;
 use c2_spec::markers::{FILL, SOI};
 use std::alloc::Global;
@@ -100,8 +100,6 @@ fn locate_boxes<S: Source>(alloc: Global, source: &mut S) -> Result<Contained, M
     ensures count { OnOk result (S.faults source.new ≡ S.faults source.old) }
     ensures stays { StaysSource S.len S.known S.faults source.old source.new }
 {
-    // Only the prover needs this law.
-    a_bmff_file_comes_to_one_thing();
     let roots = match roots(alloc, source) {
         Ok(roots) => roots,
         Err(error) => return Err(error),

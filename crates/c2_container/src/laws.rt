@@ -4,12 +4,6 @@ ghost use Rattle.c2_base.specs.declared.limits.TheConstants.{MAX_STORE_LEN};
 ghost use Rattle.c2_spec.specs.Container.{IsLocated};
 ghost use Rattle.c2_spec.specs.Located.{Located, here};
 
-use c2_bmff_boxes::{
-    a_bmff_file_comes_to_one_thing, bmff_store_bytes_are_of_the_file,
-    each_bmff_file_comes_to_something,
-};
-use c2_jpegseg::{each_file_is_located, store_bytes_are_of_the_file};
-
 /// Whatever bytes a file has, it comes to one thing, by its container: a store in a range, no store, or a refusal. A store is no
 /// longer than a store may be, and its bytes are below 2^8 where the file's are.
 pub fn each_media_file_is_located()
@@ -22,10 +16,4 @@ pub fn each_media_file_is_located()
         → All (λ b. b < 2 ^ 8) file → All (λ b. b < 2 ^ 8) store }
     ensures small { (file : List ℕ) (start len : ℕ) (store : List ℕ)
         → IsLocated file (here start len store) → length store ≤ MAX_STORE_LEN }
-{
-    each_file_is_located();
-    store_bytes_are_of_the_file();
-    each_bmff_file_comes_to_something();
-    a_bmff_file_comes_to_one_thing();
-    bmff_store_bytes_are_of_the_file();
-}
+{}

@@ -1,25 +1,17 @@
 -- One append after another.
 use Rattle.std.proofs.Common.{◌≡◌, refl, sym, ap, ◌∙◌, subst, ℕ, ◌+◌, ◌-◌, Bool, List, ◌++◌, length, take, Result, Ok, Err, arith, length-append}
 use Rattle.std.proofs.Math.Seq.{take-append-add}
-use Rattle.std.proofs.lemmas.List.{append_assoc, take-append-le}
+use Rattle.std.proofs.lemmas.List.{take-append-le}
 use Rattle.std.specs.declared.option.Option.{Option}
 use Rattle.std.specs.declared.option.Option.TheVariants.{Some, None}
 use Rattle.c2_base.specs.Causes.{Rose}
 use Rattle.c2_base.specs.Sink.{then_written, spare_less, TakesPrefix, OkWithinSpare}
 use Rattle.c2_copying.specs.Appending.{IsWriting}
-
--- what was written, and then two lists
-then_written-two : (w : Option (List ℕ)) (xs ys : List ℕ) → then_written (then_written w xs) ys ≡ then_written w (xs ++ ys)
-then_written-two None xs ys = refl
-then_written-two (Some w) xs ys = let e : (w ++ xs) ++ ys ≡ w ++ (xs ++ ys) = append_assoc w xs ys in cc
-
--- a spare that falls twice
-spare_less-two : (s : Option ℕ) (m n : ℕ) → spare_less (spare_less s m) n ≡ spare_less s (m + n)
-spare_less-two None m n = refl
-spare_less-two (Some s) m n = let e : s - m - n ≡ s - (m + n) = omega arith in cc
+use Rattle.c2_base.proofs.Written.{appended_twice, spare_less_two}
 
 -- a prefix of the first list is one of both
-prefix-front : {K : Type 0} (written : K → Option (List ℕ)) (spare : K → Option ℕ) (front back : List ℕ) (old new : K) → TakesPrefix written spare front old new → TakesPrefix written spare (front ++ back) old new
+prefix-front : {K : Type 0} (written : K → Option (List ℕ)) (spare : K → Option ℕ) (front back : List ℕ) (old new : K)
+    → TakesPrefix written spare front old new → TakesPrefix written spare (front ++ back) old new
 prefix-front written spare front back old new h = record {
   count = h.count;
   in_piece = omega (arith, h.in_piece, length-append front back);
@@ -28,17 +20,23 @@ prefix-front written spare front back old new h = record {
 }
 
 -- the first list was appended, and then a prefix of the second
-prefix-back : {K : Type 0} (written : K → Option (List ℕ)) (spare : K → Option ℕ) (front back : List ℕ) (old mid new : K) → written mid ≡ then_written (written old) front → spare mid ≡ spare_less (spare old) (length front)
+prefix-back :
+    {K : Type 0} (written : K → Option (List ℕ)) (spare : K → Option ℕ) (front back : List ℕ) (old mid new : K)
+    → written mid ≡ then_written (written old) front → spare mid ≡ spare_less (spare old) (length front)
     → TakesPrefix written spare back mid new → TakesPrefix written spare (front ++ back) old new
 prefix-back written spare front back old mid new all less h = record {
   count = length front + h.count;
   in_piece = omega (arith, h.in_piece, length-append front back);
-  prefix = h.prefix ∙ ap (λ w. then_written w (take h.count back)) all ∙ then_written-two (written old) front (take h.count back) ∙ ap (λ p. then_written (written old) p) (sym (take-append-add front back h.count));
-  less = h.less ∙ ap (λ s. spare_less s h.count) less ∙ spare_less-two (spare old) (length front) h.count;
+  prefix =
+      h.prefix ∙ ap (λ w. then_written w (take h.count back)) all
+      ∙ appended_twice (written old) front (take h.count back)
+      ∙ ap (λ p. then_written (written old) p) (sym (take-append-add front back h.count));
+  less = h.less ∙ ap (λ s. spare_less s h.count) less ∙ spare_less_two (spare old) (length front) h.count;
 }
 
 -- what is within a spare leaves room for the rest
-within-back : {T E : Type 0} (old : Option ℕ) (m n : ℕ) (r : Result T E) → OkWithinSpare (spare_less old m) n r → OkWithinSpare old (m + n) r
+within-back : {T E : Type 0} (old : Option ℕ) (m n : ℕ) (r : Result T E) → OkWithinSpare (spare_less old m) n r
+    → OkWithinSpare old (m + n) r
 within-back None m n r h s is fits = absurd (cc (is))
 within-back (Some t) m n r h s is fits =
     let same : t ≡ s = cc (is) in
@@ -46,12 +44,16 @@ within-back (Some t) m n r h s is fits =
 
 -- the same of an equal list and an equal answer
 pub same : {K T E : Type 0} (written : K → Option (List ℕ)) (spare : K → Option ℕ) (finished : K → Bool) (faults : K → ℕ) (xs ys : List ℕ) (old new : K) (r q : Result T E)
-    → xs ≡ ys → r ≡ q → IsWriting written spare finished faults xs old new r → IsWriting written spare finished faults ys old new q
-same written spare finished faults xs ys old new r q list answer h = subst (λ zs. IsWriting written spare finished faults zs old new q) list (subst (λ a. IsWriting written spare finished faults xs old new a) answer h)
+    → xs ≡ ys → r ≡ q → IsWriting written spare finished faults xs old new r
+    → IsWriting written spare finished faults ys old new q
+same written spare finished faults xs ys old new r q list answer h =
+    subst (λ zs. IsWriting written spare finished faults zs old new q) list
+    (subst (λ a. IsWriting written spare finished faults xs old new a) answer h)
 
 -- where the first append fails, so does the whole
 pub stops : {K T E : Type 0} (written : K → Option (List ℕ)) (spare : K → Option ℕ) (finished : K → Bool) (faults : K → ℕ) (front back : List ℕ) (old new : K) (e f : E)
-    → IsWriting {K = K} {T = T} {E = E} written spare finished faults front old new (Err e) → IsWriting {K = K} {T = T} {E = E} written spare finished faults (front ++ back) old new (Err f)
+    → IsWriting {K = K} {T = T} {E = E} written spare finished faults front old new (Err e)
+    → IsWriting {K = K} {T = T} {E = E} written spare finished faults (front ++ back) old new (Err f)
 stops written spare finished faults front back old new e f h = record {
   all = tt;
   less = tt;
@@ -63,10 +65,14 @@ stops written spare finished faults front back old new e f h = record {
 
 -- one append and then another are the append of both lists
 pub follows : {K T E : Type 0} (written : K → Option (List ℕ)) (spare : K → Option ℕ) (finished : K → Bool) (faults : K → ℕ) (front back : List ℕ) (old mid new : K) (x : T) (r : Result T E)
-    → IsWriting {K = K} {T = T} {E = E} written spare finished faults front old mid (Ok x) → IsWriting written spare finished faults back mid new r → IsWriting written spare finished faults (front ++ back) old new r
+    → IsWriting {K = K} {T = T} {E = E} written spare finished faults front old mid (Ok x)
+    → IsWriting written spare finished faults back mid new r
+    → IsWriting written spare finished faults (front ++ back) old new r
 follows written spare finished faults front back old mid new x (Ok y) h k = record {
-  all = k.all ∙ ap (λ w. then_written w back) h.all ∙ then_written-two (written old) front back;
-  less = k.less ∙ ap (λ s. spare_less s (length back)) h.less ∙ spare_less-two (spare old) (length front) (length back) ∙ ap (spare_less (spare old)) (sym (length-append front back));
+  all = k.all ∙ ap (λ w. then_written w back) h.all ∙ appended_twice (written old) front back;
+  less =
+      k.less ∙ ap (λ s. spare_less s (length back)) h.less ∙ spare_less_two (spare old) (length front) (length back)
+      ∙ ap (spare_less (spare old)) (sym (length-append front back));
   prefix = prefix-back written spare front back old mid new h.all h.less k.prefix;
   unfinished = k.unfinished ∙ h.unfinished;
   cause = record { later = omega (arith, h.cause.later, k.cause.later); ok = k.cause.ok ∙ h.cause.ok; failed = tt };
@@ -77,6 +83,9 @@ follows {T = T} {E = E} written spare finished faults front back old mid new x (
   less = tt;
   prefix = prefix-back written spare front back old mid new h.all h.less k.prefix;
   unfinished = k.unfinished ∙ h.unfinished;
-  cause = record { later = omega (arith, h.cause.later, k.cause.later); ok = tt; failed = subst (λ n. Rose n (faults new)) h.cause.ok k.cause.failed };
-  within = λ s is fits. within-back {T = T} {E = E} (spare old) (length front) (length back) (Err e) (subst (λ t. OkWithinSpare {T = T} {E = E} t (length back) (Err e)) h.less k.within) s is (omega (arith, fits, length-append front back));
+  cause =
+      record
+      { later = omega (arith, h.cause.later, k.cause.later); ok = tt; failed = subst (λ n. Rose n (faults new)) h.cause.ok k.cause.failed };
+  within =
+      λ s is fits. within-back {T = T} {E = E} (spare old) (length front) (length back) (Err e) (subst (λ t. OkWithinSpare {T = T} {E = E} t (length back) (Err e)) h.less k.within) s is (omega (arith, fits, length-append front back));
 }

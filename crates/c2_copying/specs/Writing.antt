@@ -53,7 +53,8 @@ pub record WritesFile {K : Type 0} (written : K → Option (List ℕ)) (spare : 
   pub wrote : HasWritten written finished Writes old new ending
   pub fits : FitsSpare Writes (spare old) ending
 
--- What it has done whatever is known of its inputs: whether the sink is finished, and that it is untouched where nothing was written.
+-- What a call has done to its sink that writes a file, whatever is known of its inputs: whether the sink is finished, and that it is
+-- untouched where nothing was written.
 pub record EndsSink {K : Type 0} (finished : K → Bool) (old new : K) (ending : Ending) : Type 0 where
   pub finish : HasFinish (finished old) (finished new) ending
   pub leaves : LeavesSink old new ending
@@ -97,14 +98,14 @@ IsWhole written spare finished bytes old new (Ok x) = Delivers written finished 
 IsWhole written spare finished bytes old new (Err e) = Breaks written spare finished bytes old new (ending_of e)
 
 -- what an error of a copy says of the source, by its count of faults before and after: it failed, or it didn't
-abbrev pub IsReadCause : ℕ → ℕ → CopyError → Type 0
-IsReadCause before now ReadFault = Rose before now
-IsReadCause before now WriteFault = now ≡ before
+abbrev pub IsCopyReadCause : ℕ → ℕ → CopyError → Type 0
+IsCopyReadCause before now ReadFault = Rose before now
+IsCopyReadCause before now WriteFault = now ≡ before
 
--- what it says of the sink
-abbrev pub IsWriteCause : ℕ → ℕ → CopyError → Type 0
-IsWriteCause before now ReadFault = now ≡ before
-IsWriteCause before now WriteFault = Rose before now
+-- what an error of a copy says of the sink, by its count of faults before and after: it failed, or it didn't
+abbrev pub IsCopyWriteCause : ℕ → ℕ → CopyError → Type 0
+IsCopyWriteCause before now ReadFault = now ≡ before
+IsCopyWriteCause before now WriteFault = Rose before now
 
 -- ---- steps one after the other
 

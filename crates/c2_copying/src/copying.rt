@@ -3,7 +3,7 @@ ghost use Rattle.std.specs.Prelude.{◌+◌, ◌<◌, ◌≤◌, length, take, d
 ghost use Rattle.std.specs.Option.{ForSome};
 ghost use Rattle.c2_base.specs.Sink.{WritesSink};
 ghost use Rattle.c2_base.specs.Source.{ReadsSource};
-ghost use Rattle.c2_copying.specs.Writing.{IsReadCause, IsStep, IsWriteCause, piece_of};
+ghost use Rattle.c2_copying.specs.Writing.{IsCopyReadCause, IsStep, IsCopyWriteCause, piece_of};
 
 use c2_base::{Failed, Sink, Source, fill_at, write_all};
 use thiserror::Error;
@@ -30,8 +30,9 @@ fn copy_piece<S: Source, K: Sink>(
     requires { at + length piece.old ≤ S.len source.old }
     ensures step { ForSome (S.known source.old) (λ file. IsStep K.written K.spare K.finished
         (take (length piece.old) (drop at file)) sink.old sink.new result) }
-    ensures reads { ReadsSource S.len S.known S.faults IsReadCause source.old source.new result }
-    ensures writes { WritesSink K.written K.finished K.faults IsWriteCause
+    ensures reads { ReadsSource S.len S.known S.faults IsCopyReadCause
+        source.old source.new result }
+    ensures writes { WritesSink K.written K.finished K.faults IsCopyWriteCause
         sink.old sink.new result }
 {
     match fill_at(source, at, piece) {
@@ -64,8 +65,9 @@ pub fn copy<S: Source, K: Sink>(
         (piece_of file from to) sink.old sink.new result) }
 
     // These hold of every source.
-    ensures reads { ReadsSource S.len S.known S.faults IsReadCause source.old source.new result }
-    ensures writes { WritesSink K.written K.finished K.faults IsWriteCause
+    ensures reads { ReadsSource S.len S.known S.faults IsCopyReadCause
+        source.old source.new result }
+    ensures writes { WritesSink K.written K.finished K.faults IsCopyWriteCause
         sink.old sink.new result }
 {
     let mut at = from;

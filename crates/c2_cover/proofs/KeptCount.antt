@@ -11,10 +11,12 @@ pub length-kept : (ex : ℕ → Bool) (at : ℕ) (xs : List ℕ) → length (kep
 length-kept ex at [] = refl
 length-kept ex at (x ∷ xs) = ap length (kept_cons ex at x xs) ∙ go (not (ex at)) ∙ ap (λ n. cond (not (ex at)) (suc n) n) (length-kept ex (at + 1) xs) ∙ sym (back (not (ex at)))
   where
-    go : (b : Bool) → length (cond b (x ∷ kept_from ex (at + 1) xs) (kept_from ex (at + 1) xs)) ≡ cond b (suc (length (kept_from ex (at + 1) xs))) (length (kept_from ex (at + 1) xs))
+    go : (b : Bool)
+        → length (cond b (x ∷ kept_from ex (at + 1) xs) (kept_from ex (at + 1) xs)) ≡ cond b (suc (length (kept_from ex (at + 1) xs))) (length (kept_from ex (at + 1) xs))
     go true = refl
     go false = refl
 
-    back : (b : Bool) → length (cond b (at ∷ filter (λ i. not (ex i)) (range_with_len (at + 1) (length xs))) (filter (λ i. not (ex i)) (range_with_len (at + 1) (length xs)))) ≡ cond b (suc (kept_count ex (at + 1) (length xs))) (kept_count ex (at + 1) (length xs))
+    back : (b : Bool)
+        → length (cond b (at ∷ filter (λ i. not (ex i)) (range_with_len (at + 1) (length xs))) (filter (λ i. not (ex i)) (range_with_len (at + 1) (length xs)))) ≡ cond b (suc (kept_count ex (at + 1) (length xs))) (kept_count ex (at + 1) (length xs))
     back true = refl
     back false = refl

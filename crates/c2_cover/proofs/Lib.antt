@@ -7,5 +7,6 @@ mod PassingLemmas
 mod ReadingLemmas
 mod StretchLemmas
 mod TellingLemmas
+pub mod TheLaws
 mod ToldLemmas
 mod UnreadLemmas

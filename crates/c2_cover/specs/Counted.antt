@@ -9,11 +9,11 @@ use Rattle.c2_cover.specs.Covers.{AreMerged, kept_count}
 abbrev pub passing : (ℕ → Bool) → ℕ → ℕ → ℕ
 passing p at n = length (filter p (range_with_len at n))
 
--- a position lies before `start`, or `end` or later
+-- a position lies before `start`, or at `end` or later
 abbrev pub is_out : ℕ → ℕ → ℕ → Bool
 is_out start end i = nat_lt i start || nat_le end i
 
--- it is excluded besides
+-- a position is excluded, and lies before `start`, or at `end` or later
 abbrev pub is_excluded_out : List Range → ℕ → ℕ → ℕ → Bool
 is_excluded_out ranges start end i = is_excluded ranges i && is_out start end i
 

@@ -1,4 +1,4 @@
-pub mod Words
+pub mod BoxOffsets
 pub mod Covers
 pub mod Digests
 pub mod Refused

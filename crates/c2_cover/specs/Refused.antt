@@ -8,10 +8,10 @@ use Rattle.c2_cover.specs.declared.cover.CoverError.{CoverError}
 use Rattle.c2_cover.specs.declared.cover.CoverError.TheVariants.{BadRange, ReadFault, NoMemory}
 
 -- the cause of this error of `data_cover`
-abbrev pub IsCause : ℕ → List Range → CoverError → Type 0
-IsCause size ranges (BadRange i) = bad_range size ranges ≡ Some i
-IsCause size ranges ReadFault = ⊥
-IsCause size ranges NoMemory = ⊤
+abbrev pub IsDataCoverCause : ℕ → List Range → CoverError → Type 0
+IsDataCoverCause size ranges (BadRange i) = bad_range size ranges ≡ Some i
+IsDataCoverCause size ranges ReadFault = ⊥
+IsDataCoverCause size ranges NoMemory = ⊤
 
 -- the cause of this error of `bmff_cover`, where the source's count of faults was and is this
 abbrev pub IsBmffCause : ℕ → ℕ → CoverError → Type 0

@@ -1,11 +1,11 @@
--- For private clauses: the words of a cover while they are made.
+-- For private clauses: the box offsets of a cover while they are made.
 use Rattle.std.specs.Prelude.{◌≡◌, ℕ, ◌+◌, ◌-◌, ◌≤◌, ⊤, nat_le, Bool, List, [], ◌∷◌, take, drop, if◌then◌else◌}
 use Rattle.c2_base.specs.declared.values.Range.{Range}
 use Rattle.c2_bmff_rows.specs.declared.row.RootBox.{RootBox}
 use Rattle.c2_spec.specs.Cover.{is_excluded}
 use Rattle.c2_cover.specs.Covers.{Covered, AreMerged}
-use Rattle.c2_cover.specs.Words.{AreWords, words_of}
-use Rattle.c2_cover.specs.declared.words.Word.{Word}
+use Rattle.c2_cover.specs.BoxOffsets.{AreBoxOffsets, offsets_of}
+use Rattle.c2_cover.specs.declared.offsets.BoxOffset.{BoxOffset}
 
 -- the ranges from the first on that ends after this position
 abbrev pub ending_after : ℕ → List Range → List Range
@@ -22,32 +22,32 @@ abbrev pub Follow : ℕ → List RootBox → Type 0
 Follow low [] = ⊤
 Follow low (r ∷ rs) = (r.start ≡ low) × Follow (low + r.length) rs
 
--- no word stands after this position
-abbrev pub StandBy : ℕ → List Word → Type 0
+-- no box offset stands after this position
+abbrev pub StandBy : ℕ → List BoxOffset → Type 0
 StandBy low [] = ⊤
 StandBy low (w ∷ ws) = (w.at ≤ low) × StandBy low ws
 
--- These are the words of the first `n` root boxes, and the next one begins at `low` or later.
-pub record TellsAll (excludes : ℕ → Bool) (rows : List RootBox) (n low : ℕ) (words : List Word) : Type
+-- These are the box offsets of the first `n` root boxes, and the next one begins at `low` or later.
+pub record TellsAll (excludes : ℕ → Bool) (rows : List RootBox) (n low : ℕ) (offsets : List BoxOffset) : Type
     0 where
   pub from : ℕ
   pub follow : Follow from (drop n rows)
   pub later : low ≤ from
-  pub are : words ≡ words_of excludes (take n rows)
+  pub are : offsets ≡ offsets_of excludes (take n rows)
 
 -- Words of the first `n` root boxes, and of all where each begins at the end of the one before it; from `low` on the ranges ahead
 -- exclude what all do.
 pub record TellsTo (size : ℕ) (ranges : List Range) (rows : List RootBox) (n : ℕ)
-    (ahead : List Range) (low : ℕ) (words : List Word) : Type 0 where
-  pub merged : AreMerged size 0 ahead
-  pub same : (i : ℕ) → low ≤ i → is_excluded ahead i ≡ is_excluded ranges i
-  pub rise : AreWords size ranges 0 words
-  pub by : StandBy low words
-  pub all : Follow 0 rows → TellsAll (is_excluded ranges) rows n low words
+    (ranges_left : List Range) (low : ℕ) (offsets : List BoxOffset) : Type 0 where
+  pub merged : AreMerged size 0 ranges_left
+  pub same : (i : ℕ) → low ≤ i → is_excluded ranges_left i ≡ is_excluded ranges i
+  pub rise : AreBoxOffsets size ranges 0 offsets
+  pub by : StandBy low offsets
+  pub all : Follow 0 rows → TellsAll (is_excluded ranges) rows n low offsets
 
--- the cover with words of these root boxes, and of all where each begins at the end of the one before it
+-- the cover with box offsets of these root boxes, and of all where each begins at the end of the one before it
 pub record IsToldBy (rows : List RootBox) (c d : Covered) : Type 0 where
   pub size : d.size ≡ c.size
   pub ranges : d.ranges ≡ c.ranges
-  pub rise : AreWords d.size d.ranges 0 d.words
-  pub all : Follow 0 rows → d.words ≡ words_of (is_excluded c.ranges) rows
+  pub rise : AreBoxOffsets d.size d.ranges 0 d.offsets
+  pub all : Follow 0 rows → d.offsets ≡ offsets_of (is_excluded c.ranges) rows

@@ -4,16 +4,16 @@ use Rattle.std.specs.Option.{ForSome}
 use Rattle.c2_cover.specs.Covers.{Reading, rest_of, left_of}
 use Rattle.c2_cover.specs.declared.same.Pending.{Pending}
 
--- they stand in the buffer
+-- the pending bytes stand in a buffer of `len` bytes
 pub record Lies (p : Pending) (len : ℕ) : Type 0 where
   pub ordered : p.from ≤ p.to
   pub inside : p.to ≤ len
 
--- they and what the reader has before it
+-- the bytes that are still unread: those that are pending, then those that the reader has left
 abbrev pub unread : Pending → List ℕ → Reading → List ℕ → List ℕ
 unread p buf r file = take (p.to - p.from) (drop p.from buf) ++ rest_of r file
 
--- how many these are: those that are pending, and those that the reader has left
+-- how many bytes are still unread: those that are pending, and those that the reader has left
 abbrev pub unread_len : Pending → Reading → ℕ
 unread_len p r = (p.to - p.from) + left_of r
 

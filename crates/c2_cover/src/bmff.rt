@@ -2,23 +2,23 @@
 ghost use Rattle.std.specs.Prelude.{◌≡◌, ℕ, All, OnOk, IfOk, IfErr};
 ghost use Rattle.std.specs.Option.{ForSome};
 ghost use Rattle.c2_base.specs.Source.{StaysSource};
-ghost use Rattle.c2_bmff_boxes.specs.Causes.{IsCaused, OrOutside};
+ghost use Rattle.c2_bmff_boxes.specs.Causes.{IsBmffCaused, OrBmffFault};
 ghost use Rattle.c2_bmff_rows.specs.Rows.{IsBoxWithin};
 ghost use Rattle.c2_cover.specs.BmffCovers.{IsBmffCoverOf};
 ghost use Rattle.c2_cover.specs.Refused.{IsBmffCause};
-ghost use Rattle.c2_cover.specs.Words.{AreWords};
+ghost use Rattle.c2_cover.specs.BoxOffsets.{AreBoxOffsets};
 
 use crate::cover::{Cover, CoverError, cover_without};
-use crate::words::with_words;
+use crate::offsets::with_offsets;
 use c2_base::{MediaError, Source};
 use c2_bmff::types::Roots;
 use c2_bmff::{Exclusion, match_paths};
 use std::alloc::Global;
 
-// The same cause, of the two that the match of paths has.
+// The error of a search on paths as one of a cover: that a source failed, or that memory ran out.
 fn matching_error(error: MediaError) -> CoverError
-    requires { OrOutside error ⊥ }
-    ensures { (before now : ℕ) → IsCaused before now error → IsBmffCause before now result }
+    requires { OrBmffFault error ⊥ }
+    ensures { (before now : ℕ) → IsBmffCaused before now error → IsBmffCause before now result }
 {
     match error {
         MediaError::ReadFault => CoverError::ReadFault,
@@ -52,7 +52,7 @@ pub fn bmff_cover<S: Source>(
     ensures cover { IfOk result (λ c. ForSome (S.known source.old) (λ file.
         IsBmffCoverOf file roots.now entries.now c)) }
     ensures size { IfOk result (λ c. c.size ≡ S.len source.old) }
-    ensures words { IfOk result (λ c. AreWords c.size c.ranges 0 c.words) }
+    ensures offsets { IfOk result (λ c. AreBoxOffsets c.size c.ranges 0 c.offsets) }
     ensures stays { StaysSource S.len S.known S.faults source.old source.new }
     ensures count { OnOk result (S.faults source.new ≡ S.faults source.old) }
     ensures cause { IfErr result (IsBmffCause (S.faults source.old) (S.faults source.new)) }
@@ -64,6 +64,6 @@ pub fn bmff_cover<S: Source>(
     };
     let mut sorted = Vec::from_slice(alloc, ranges.as_slice())?;
     let cover = cover_without(alloc, sorted.as_mut_slice(), size)?;
-    let told = with_words(alloc, cover, roots.as_slice())?;
+    let told = with_offsets(alloc, cover, roots.as_slice())?;
     Ok(told)
 }

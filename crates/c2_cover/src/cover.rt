@@ -4,9 +4,9 @@ ghost use Rattle.std.specs.List.Sorted.{IsPermutation};
 ghost use Rattle.c2_spec.specs.Cover.{is_excluded, bad_range};
 ghost use Rattle.c2_cover.specs.Covers.{AreMerged, IsCoverOf};
 ghost use Rattle.c2_cover.specs.Merging.{InOrder, with_open};
-ghost use Rattle.c2_cover.specs.Refused.{IsCause};
+ghost use Rattle.c2_cover.specs.Refused.{IsDataCoverCause};
 
-use crate::words::Word;
+use crate::offsets::BoxOffset;
 use c2_base::{Failed, NoMemory, Range};
 use std::alloc::{AllocError, Global};
 use std::marker::Model;
@@ -20,24 +20,24 @@ use thiserror::Error;
 pub struct Cover {
     pub(crate) size: u64,
     pub(crate) ranges: Vec<Range>,
-    pub(crate) words: Vec<Word>,
+    pub(crate) offsets: Vec<BoxOffset>,
 }
 
 impl Model for Cover {
     ghost use Rattle.std.specs.Prelude.{◌<◌, ◌^◌};
     ghost use Rattle.c2_cover.specs.Covers.{Covered, AreMerged};
-    ghost use Rattle.c2_cover.specs.Words.{AreWords};
+    ghost use Rattle.c2_cover.specs.BoxOffsets.{AreBoxOffsets};
 
     ghost Value = { Covered };
 
     ghost view = { λ c. record {
       size = c.size;
       ranges = c.ranges.items;
-      words = c.words.items;
+      offsets = c.offsets.items;
     } };
 
     ghost invariant = { λ c. (c.size < 2 ^ 64) × AreMerged c.size 0 c.ranges.items
-        × AreWords c.size c.ranges.items 0 c.words.items };
+        × AreBoxOffsets c.size c.ranges.items 0 c.offsets.items };
 }
 
 /// Why there is no cover.
@@ -148,18 +148,18 @@ fn merged(alloc: Global, ranges: &[Range], size: u64) -> Result<Vec<Range>, Allo
 pub fn data_cover(alloc: Global, ranges: &[Range], size: u64) -> Result<Cover, CoverError>
     ensures cover { IfOk result (IsCoverOf size ranges.now) }
     ensures fit { OnOk result (bad_range size ranges.now ≡ None) }
-    ensures error { IfErr result (IsCause size ranges.now) }
+    ensures error { IfErr result (IsDataCoverCause size ranges.now) }
 {
     match check_ranges(ranges, size) {
         Ok(()) => {}
         Err(index) => return Err(CoverError::BadRange(index)),
     }
     let ranges = merged(alloc, ranges, size)?;
-    let words = Vec::new(alloc);
+    let offsets = Vec::new(alloc);
     Ok(Cover {
         size,
         ranges,
-        words,
+        offsets,
     })
 }
 
@@ -173,10 +173,10 @@ pub fn cover_without(alloc: Global, ranges: &mut [Range], size: u64) -> Result<C
 {
     ranges.sort_unstable_by_key(|range| range.start);
     let ranges = merged(alloc, ranges, size)?;
-    let words = Vec::new(alloc);
+    let offsets = Vec::new(alloc);
     Ok(Cover {
         size,
         ranges,
-        words,
+        offsets,
     })
 }

@@ -10,9 +10,9 @@ mod counts;
 mod cover;
 mod digest;
 mod laws;
+mod offsets;
 mod reader;
 mod same;
-mod words;
 
 pub use bmff::bmff_cover;
 pub use counts::{covered_count, outside_count};

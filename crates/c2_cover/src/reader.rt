@@ -3,10 +3,10 @@ ghost use Rattle.std.specs.Prelude.{◌≡◌, ◌<◌, ◌≤◌, ◌+◌, min,
 ghost use Rattle.c2_base.specs.Causes.{HasCause};
 ghost use Rattle.c2_base.specs.Source.{StaysSource};
 ghost use Rattle.c2_cover.specs.Covers.{AreMerged, IsStart, ReadsNext};
-ghost use Rattle.c2_cover.specs.Stretches.{IsGiven, IsReady, IsSpot, due_of, range_place, reading, word_place};
+ghost use Rattle.c2_cover.specs.Stretches.{IsGiven, IsReady, IsReadTo, due_of, range_place, reading, offset_place};
 
 use crate::cover::Cover;
-use crate::words::Word;
+use crate::offsets::BoxOffset;
 use c2_base::{Failed, Range, Source, fill_at};
 use std::marker::Model;
 
@@ -27,9 +27,9 @@ pub struct CoveredReader<'c> {
 struct Place<'c> {
     at: u64,
     // the ranges that aren't passed yet
-    ahead: &'c [Range],
-    // the words that aren't begun yet
-    words: &'c [Word],
+    ranges_left: &'c [Range],
+    // the box offsets that aren't begun yet
+    offsets: &'c [BoxOffset],
     // the box's start that was begun, and how many of its bytes were given
     start: u64,
     done: usize,
@@ -39,42 +39,44 @@ impl<'c> Model for CoveredReader<'c> {
     ghost use Rattle.std.specs.Prelude.{◌<◌, ◌≤◌, ◌^◌};
     ghost use Rattle.c2_cover.specs.Covers.{Reading, AreMerged};
     ghost use Rattle.c2_cover.specs.Stretches.{due_of};
-    ghost use Rattle.c2_cover.specs.Words.{AreWords};
+    ghost use Rattle.c2_cover.specs.BoxOffsets.{AreBoxOffsets};
 
     ghost Value = { Reading };
 
     ghost view = { λ r. record {
       size = r.size;
       at = r.place.at;
-      ranges = r.place.ahead.now;
-      words = r.place.words.now;
+      ranges = r.place.ranges_left.now;
+      offsets = r.place.offsets.now;
       due = due_of r.place.start r.place.done;
     } };
 
-    ghost invariant = { λ r. (r.place.at ≤ r.size) × AreMerged r.size r.place.at r.place.ahead.now
-        × AreWords r.size r.place.ahead.now r.place.at r.place.words.now × (r.size < 2 ^ 64) };
+    ghost invariant = { λ r. (r.place.at ≤ r.size)
+        × AreMerged r.size r.place.at r.place.ranges_left.now
+        × AreBoxOffsets r.size r.place.ranges_left.now r.place.at r.place.offsets.now
+        × (r.size < 2 ^ 64) };
 }
 
 // A place of the file, and the ranges after it.
 #[derive(Clone, Copy)]
-struct Spot<'c> {
+struct ReadTo<'c> {
     at: u64,
-    ahead: &'c [Range],
+    ranges_left: &'c [Range],
 }
 
-// Where the first of these ranges begins or the first of these words stands, or the end of the file.
-fn stretch_end(size: u64, ahead: &[Range], words: &[Word]) -> u64
-    ensures { result ≡ min (range_place size ahead.now) (word_place size words.now) }
+// Where the first of these ranges begins or the first of these box offsets stands, or the end of the file.
+fn stretch_end(size: u64, ranges_left: &[Range], offsets: &[BoxOffset]) -> u64
+    ensures { result ≡ min (range_place size ranges_left.now) (offset_place size offsets.now) }
 {
-    let range = match ahead.first() {
+    let range = match ranges_left.first() {
         Some(range) => range.start,
         None => size,
     };
-    let word = match words.first() {
-        Some(word) => word.at,
+    let offset = match offsets.first() {
+        Some(offset) => offset.at,
         None => size,
     };
-    range.min(word)
+    range.min(offset)
 }
 
 // Puts bytes of this start into the first places of `buf`, from the first on that isn't given yet, and says how many.
@@ -97,8 +99,8 @@ impl<'c> CoveredReader<'c> {
             size: cover.size,
             place: Place {
                 at: 0,
-                ahead: &cover.ranges,
-                words: &cover.words,
+                ranges_left: &cover.ranges,
+                offsets: &cover.offsets,
                 start: 0,
                 done: WORD_LEN,
             },
@@ -106,39 +108,39 @@ impl<'c> CoveredReader<'c> {
     }
 
     // The place after the range that begins here.
-    fn spot(&self) -> Spot<'c>
-        ensures { IsSpot self.now result.at result.ahead.now }
+    fn read_to(&self) -> ReadTo<'c>
+        ensures { IsReadTo self.now result.at result.ranges_left.now }
     {
-        if let Some((first, others)) = self.place.ahead.split_first() {
+        if let Some((first, others)) = self.place.ranges_left.split_first() {
             if first.start == self.place.at {
-                return Spot {
+                return ReadTo {
                     at: first.start + first.length,
-                    ahead: others,
+                    ranges_left: others,
                 };
             }
         }
-        Spot {
+        ReadTo {
             at: self.place.at,
-            ahead: self.place.ahead,
+            ranges_left: self.place.ranges_left,
         }
     }
 
-    // The place after the range that begins here, where the word that stands there is begun.
+    // The place after the range that begins here, where the box offset that stands there is begun.
     fn ready(&self) -> Place<'c>
-        ensures { IsReady self.now (reading self.now.size result.at result.ahead.now
-            result.words.now result.start result.done) }
+        ensures { IsReady self.now (reading self.now.size result.at result.ranges_left.now
+            result.offsets.now result.start result.done) }
     {
-        let Spot { at, ahead } = self.spot();
-        let words = self.place.words;
+        let ReadTo { at, ranges_left } = self.read_to();
+        let offsets = self.place.offsets;
         let start = self.place.start;
         let done = self.place.done;
         if done >= WORD_LEN {
-            if let Some((first, others)) = words.split_first() {
+            if let Some((first, others)) = offsets.split_first() {
                 if first.at == at {
                     return Place {
                         at,
-                        ahead,
-                        words: others,
+                        ranges_left,
+                        offsets: others,
                         start: first.start,
                         done: 0,
                     };
@@ -147,8 +149,8 @@ impl<'c> CoveredReader<'c> {
         }
         Place {
             at,
-            ahead,
-            words,
+            ranges_left,
+            offsets,
             start,
             done,
         }
@@ -174,7 +176,7 @@ impl<'c> CoveredReader<'c> {
             self.place = place;
             return Ok(given);
         }
-        let end = stretch_end(self.size, place.ahead, place.words);
+        let end = stretch_end(self.size, place.ranges_left, place.offsets);
         let count = (end - place.at).min(buf.len() as u64) as usize;
         fill_at(source, place.at, &mut buf[..count])?;
         place.at += count as u64;

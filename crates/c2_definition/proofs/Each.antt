@@ -18,34 +18,42 @@ abbrev pub and_then_all : {A : Type 0} → List A → Option (List A) → Option
 and_then_all front rest = option_map (λ back. front ++ back) rest
 
 -- from a place on, the value there and those after it
-all_from : {A : Type 0} (read : Data → Option A) (vs : List Value) (i : ℕ) (v : Value) → i < length vs → v ≡ get_or vs i v
+all_from : {A : Type 0} (read : Data → Option A) (vs : List Value) (i : ℕ) (v : Value) → i < length vs
+    → v ≡ get_or vs i v
     → all_of read (drop i vs) ≡ joined (read (view v)) (all_of read (drop (i + 1) vs))
 all_from read vs i v lt at =
     let rest = all_of read (drop (i + 1) vs) in
     ap (all_of read) (drop_more vs i v lt) ∙ ap (λ w. joined (read (view w)) rest) (sym at)
 
 -- one more in front of the rest
-onto : {A : Type 0} (front : List A) (x : A) (rest : Option (List A)) → and_then_all front (joined (Some x) rest) ≡ and_then_all (front ++ x ∷ []) rest
+onto : {A : Type 0} (front : List A) (x : A) (rest : Option (List A))
+    → and_then_all front (joined (Some x) rest) ≡ and_then_all (front ++ x ∷ []) rest
 onto front x None = refl
 onto front x (Some back) = ap Some (sym (append_assoc front (x ∷ []) back))
 
 -- one more is read
-pub each_next : {A : Type 0} (read : Data → Option A) (vs : List Value) (i : ℕ) (v : Value) (x : A) (front : List A) → i < length vs → v ≡ get_or vs i v
+pub each_next : {A : Type 0} (read : Data → Option A) (vs : List Value) (i : ℕ) (v : Value) (x : A) (front : List A)
+    → i < length vs → v ≡ get_or vs i v
     → each_of read (items_view vs) ≡ and_then_all front (each_of read (items_view (drop i vs))) → Some x ≡ read (view v)
     → each_of read (items_view vs) ≡ and_then_all (front ++ x ∷ []) (each_of read (items_view (drop (i + 1) vs)))
 each_next read vs i v x front lt at so_far is =
     let rest = all_of read (drop (i + 1) vs) in
-    so_far ∙ ap (and_then_all front) (all_from read vs i v lt at) ∙ ap (λ o. and_then_all front (joined o rest)) (sym is) ∙ onto front x rest
+    so_far ∙ ap (and_then_all front) (all_from read vs i v lt at)
+    ∙ ap (λ o. and_then_all front (joined o rest)) (sym is) ∙ onto front x rest
 
 -- one is none
-pub each_stops : {A : Type 0} (read : Data → Option A) (vs : List Value) (i : ℕ) (v : Value) (front : List A) → i < length vs → v ≡ get_or vs i v
+pub each_stops : {A : Type 0} (read : Data → Option A) (vs : List Value) (i : ℕ) (v : Value) (front : List A)
+    → i < length vs → v ≡ get_or vs i v
     → each_of read (items_view vs) ≡ and_then_all front (each_of read (items_view (drop i vs))) → None ≡ read (view v)
     → ◌≡◌ {A = Option (List A)} None (each_of read (items_view vs))
 each_stops read vs i v front lt at so_far is =
     let rest = all_of read (drop (i + 1) vs) in
-    sym (so_far ∙ ap (and_then_all front) (all_from read vs i v lt at) ∙ ap (λ o. and_then_all front (joined o rest)) (sym is))
+    sym
+    (so_far ∙ ap (and_then_all front) (all_from read vs i v lt at) ∙ ap (λ o. and_then_all front (joined o rest)) (sym is))
 
 -- all are read
 pub each_done : {A : Type 0} (read : Data → Option A) (vs : List Value) (front : List A)
-    → each_of read (items_view vs) ≡ and_then_all front (each_of read (items_view (drop (length vs) vs))) → Some front ≡ each_of read (items_view vs)
-each_done read vs front so_far = sym (so_far ∙ ap (λ ws. and_then_all front (all_of read ws)) (drop-length vs) ∙ ap Some (append-nil front))
+    → each_of read (items_view vs) ≡ and_then_all front (each_of read (items_view (drop (length vs) vs)))
+    → Some front ≡ each_of read (items_view vs)
+each_done read vs front so_far =
+    sym (so_far ∙ ap (λ ws. and_then_all front (all_of read ws)) (drop-length vs) ∙ ap Some (append-nil front))

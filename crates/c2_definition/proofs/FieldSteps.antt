@@ -12,7 +12,8 @@ use Rattle.c2_definition.specs.DefinitionFile.{assertions_in, redactions_in, alg
 use Rattle.c2_definition.specs.Stages.{Passes}
 
 -- what the last three fields come to, after the others
-abbrev pub last_fields : FirstFields → Option (List NewAssertion) → Option (List (List ℕ)) → Option Alg → Result Definition DefinitionField
+abbrev pub last_fields : FirstFields → Option (List NewAssertion) → Option (List (List ℕ)) → Option Alg
+    → Result Definition DefinitionField
 last_fields d assertions redactions named =
     require field.Assertions assertions (λ list.
     require field.Redact redactions (λ redact.
@@ -32,4 +33,5 @@ last_fields d assertions redactions named =
 -- where the first fields pass, the last three decide
 pub after_first : (v : Data) (payloads : Bool) (d : FirstFields) → Passes v d
     → definition_of payloads v ≡ last_fields d (if payloads then assertions_in v else None) (redactions_in v) (alg_in v)
-after_first v payloads d p = rw p.keys (rw p.label (rw p.instance (rw p.generator (rw p.title (rw p.protected (rw p.reserve refl))))))
+after_first v payloads d p =
+    rw p.keys (rw p.label (rw p.instance (rw p.generator (rw p.title (rw p.protected (rw p.reserve refl))))))

@@ -29,7 +29,8 @@ json_none bytes none = by_test (is_utf8 bytes) refl
     by_test false e = refl
 
 -- a value that was read and is an object
-pub object_is : (bytes : List ℕ) (v : Data) (t : Bool) → IsUtf8 bytes × (read bytes ≡ Some v) → t ≡ is_object v → t ≡ true → Some v ≡ object_of bytes
+pub object_is : (bytes : List ℕ) (v : Data) (t : Bool) → IsUtf8 bytes × (read bytes ≡ Some v) → t ≡ is_object v
+    → t ≡ true → Some v ≡ object_of bytes
 object_is bytes v t was told is =
     sym (ap (kept is_object) (json_is bytes v was.0 was.1) ∙ ap (λ b. cond b (Some v) None) (sym told ∙ is))
 
@@ -40,15 +41,24 @@ no_value bytes none = sym (ap (kept is_object) (json_none bytes none))
 -- ---- what a file comes to
 
 -- a file that is too long
-pub too_long : (file : List ℕ) (r : Result Definition DefinitionField) → IsDefinition file r → MAX_INPUT_LEN < length file → r ≡ Err field.Size
-too_long file r h long = h.is ∙ ap (λ b. cond b (Err field.Size) (require field.Json (object_of file) (definition_of h.payloads))) (lt-ltb MAX_INPUT_LEN (length file) long)
+pub too_long : (file : List ℕ) (r : Result Definition DefinitionField) → IsDefinition file r
+    → MAX_INPUT_LEN < length file → r ≡ Err field.Size
+too_long file r h long =
+    h.is
+    ∙ ap (λ b. cond b (Err field.Size) (require field.Json (object_of file) (definition_of h.payloads)))
+    (lt-ltb MAX_INPUT_LEN (length file) long)
 
 -- a file that isn't comes to what its object does
-of_object : (file : List ℕ) (r : Result Definition DefinitionField) (h : IsDefinition file r) → length file ≤ MAX_INPUT_LEN → r ≡ require field.Json (object_of file) (definition_of h.payloads)
-of_object file r h short = h.is ∙ ap (λ b. cond b (Err field.Size) (require field.Json (object_of file) (definition_of h.payloads))) (le-ltb MAX_INPUT_LEN (length file) short)
+of_object : (file : List ℕ) (r : Result Definition DefinitionField) (h : IsDefinition file r)
+    → length file ≤ MAX_INPUT_LEN → r ≡ require field.Json (object_of file) (definition_of h.payloads)
+of_object file r h short =
+    h.is
+    ∙ ap (λ b. cond b (Err field.Size) (require field.Json (object_of file) (definition_of h.payloads)))
+    (le-ltb MAX_INPUT_LEN (length file) short)
 
 -- what is told of a file is told of its object
-told_here : (file : List ℕ) (v : Data) (payloads : Bool) → TellsPayloads payloads file → object_of file ≡ Some v → (payloads ≡ true) ↔ HavePayloads v
+told_here : (file : List ℕ) (v : Data) (payloads : Bool) → TellsPayloads payloads file → object_of file ≡ Some v
+    → (payloads ≡ true) ↔ HavePayloads v
 told_here file v payloads told is = (
   λ e. told.0 e v is,
   λ have. told.1 (λ w at. let same : v ≡ w = same_some (sym is ∙ at) in subst HavePayloads same have),
@@ -58,8 +68,12 @@ told_here file v payloads told is = (
     same_some e = cc (e)
 
 -- an answer for the object is one for the file
-pub agrees_file : (file : List ℕ) (v : Data) (r : Result Definition DefinitionField) (answer : Result Definition DefinitionError) → IsDefinition file r → length file ≤ MAX_INPUT_LEN → Some v ≡ object_of file
-    → ((payloads : Bool) → (payloads ≡ true) ↔ HavePayloads v → Agrees (definition_of payloads v) answer) → Agrees r answer
+pub agrees_file :
+    (file : List ℕ) (v : Data) (r : Result Definition DefinitionField) (answer : Result Definition DefinitionError)
+    → IsDefinition file r → length file ≤ MAX_INPUT_LEN → Some v ≡ object_of file
+    → ((payloads : Bool) → (payloads ≡ true) ↔ HavePayloads v → Agrees (definition_of payloads v) answer)
+    → Agrees r answer
 agrees_file file v r answer h short is agrees =
-    let comes : r ≡ definition_of h.payloads v = of_object file r h short ∙ ap (λ o. require field.Json o (definition_of h.payloads)) (sym is) in
+    let comes : r ≡ definition_of h.payloads v =
+    of_object file r h short ∙ ap (λ o. require field.Json o (definition_of h.payloads)) (sym is) in
     subst (λ q. Agrees q answer) (sym comes) (agrees h.payloads (told_here file v h.payloads h.told (sym is)))

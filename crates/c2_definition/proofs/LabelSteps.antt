@@ -14,26 +14,35 @@ pub record Behind (list : List NewAssertion) (i : ℕ) (behind : Labels) : Type 
   pub kept : (other : List ℕ) → is_among behind other ≡ list_any (has_label other) (drop i list)
   pub differ : labels_differ (drop i list) ≡ true
 
--- those from a place on are the one there and those behind it
-here_and_behind : (list : List NewAssertion) (i : ℕ) (a : NewAssertion) → i < length list → a ≡ get_or list i a → drop i list ≡ a ∷ drop (i + 1) list
+-- the new assertions from a place on are the one there and those behind it
+here_and_behind : (list : List NewAssertion) (i : ℕ) (a : NewAssertion) → i < length list → a ≡ get_or list i a
+    → drop i list ≡ a ∷ drop (i + 1) list
 here_and_behind list i a lt at = drop_more list i a lt ∙ ap (λ b. b ∷ drop (i + 1) list) (sym at)
 
 -- labels differ from a place on where they differ behind it and none there is the one at it
-differ_from : (list : List NewAssertion) (i : ℕ) (a : NewAssertion) (found : Bool) → i < length list → a ≡ get_or list i a
-    → found ≡ list_any (has_label a.label) (drop (i + 1) list) → labels_differ (drop (i + 1) list) ≡ true → labels_differ (drop i list) ≡ (not found && true)
+differ_from : (list : List NewAssertion) (i : ℕ) (a : NewAssertion) (found : Bool) → i < length list
+    → a ≡ get_or list i a
+    → found ≡ list_any (has_label a.label) (drop (i + 1) list) → labels_differ (drop (i + 1) list) ≡ true
+    → labels_differ (drop i list) ≡ (not found && true)
 differ_from list i a found lt at is behind =
-    ap labels_differ (here_and_behind list i a lt at) ∙ ap (λ b. not b && labels_differ (drop (i + 1) list)) (sym is) ∙ ap (λ b. not found && b) behind
+    ap labels_differ (here_and_behind list i a lt at) ∙ ap (λ b. not b && labels_differ (drop (i + 1) list)) (sym is)
+    ∙ ap (λ b. not found && b) behind
 
 -- labels that all differ do so from each place on
 differ_behind : (list : List NewAssertion) (i : ℕ) → labels_differ list ≡ true → labels_differ (drop i list) ≡ true
 differ_behind [] zero h = h
 differ_behind [] (suc i) h = refl
 differ_behind (a ∷ more) zero h = h
-differ_behind (a ∷ more) (suc i) h = differ_behind more i (and_parts (not (list_any (has_label a.label) more)) (labels_differ more) h).1
+differ_behind (a ∷ more) (suc i) h =
+    differ_behind more i (and_parts (not (list_any (has_label a.label) more)) (labels_differ more) h).1
 
--- they don't all differ where it is found
-pub same_here : (list : List NewAssertion) (i : ℕ) (a : NewAssertion) (found : Bool) → i < length list → a ≡ get_or list i a
-    → found ≡ list_any (has_label a.label) (drop (i + 1) list) → labels_differ (drop (i + 1) list) ≡ true → found ≡ true → false ≡ labels_differ list
+-- labels don't all differ where one is found again behind its place
+pub same_here : (list : List NewAssertion) (i : ℕ) (a : NewAssertion) (found : Bool) → i < length list
+    → a ≡ get_or list i a
+    → found ≡ list_any (has_label a.label) (drop (i + 1) list) → labels_differ (drop (i + 1) list) ≡ true → found ≡ true
+    → false ≡ labels_differ list
 same_here list i a found lt at is behind one =
-    let not_here : labels_differ (drop i list) ≡ false = differ_from list i a found lt at is behind ∙ ap (λ b. not b && true) one in
-    sym (false_from_ne_true (labels_differ list) (λ all. both_ways (labels_differ (drop i list)) not_here (differ_behind list i all)))
+    let not_here : labels_differ (drop i list) ≡ false =
+    differ_from list i a found lt at is behind ∙ ap (λ b. not b && true) one in
+    sym
+    (false_from_ne_true (labels_differ list) (λ all. both_ways (labels_differ (drop i list)) not_here (differ_behind list i all)))

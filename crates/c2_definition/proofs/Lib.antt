@@ -4,5 +4,6 @@ pub mod FieldSteps
 pub mod FileSteps
 pub mod LabelSteps
 pub mod PayloadSteps
+pub mod TheLaws
 pub mod Uuids
 pub mod WellFormed

@@ -8,6 +8,7 @@ use Rattle.c2_definition.specs.DefinitionFile.{is_uuid}
 pub not_parsed : (t : List ℕ) → ((u : List ℕ) → parsed t ≡ Some u → ⊥) → false ≡ is_uuid t
 not_parsed t none = by_parse (parsed t) refl
   where
-    by_parse : (o : Option (List ℕ)) → parsed t ≡ o → false ≡ option_map_or (λ u. bytes_eq t (hyphenated_text lower u)) o false
+    by_parse : (o : Option (List ℕ)) → parsed t ≡ o
+        → false ≡ option_map_or (λ u. bytes_eq t (hyphenated_text lower u)) o false
     by_parse None e = refl
     by_parse (Some u) e = absurd (none u e)

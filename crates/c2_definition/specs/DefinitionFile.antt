@@ -133,11 +133,11 @@ assertion_of v =
     then assertion_from (kept is_new_label (text_at (codes "label") v)) (option_and_then payload_of (text_at (codes "kind") v)) (hex_at (codes "hex") v)
     else None
 
--- it has this label
+-- the new assertion has this label
 abbrev pub has_label : List ℕ → NewAssertion → Bool
 has_label label a = bytes_eq a.label label
 
--- no two have one label
+-- no two of these new assertions have one label
 abbrev pub labels_differ : List NewAssertion → Bool
 labels_differ [] = true
 labels_differ (a ∷ more) = not (list_any (has_label a.label) more) && labels_differ more
@@ -163,7 +163,7 @@ IsPayload payload.Json bytes = ⊤
 abbrev pub HasPayload : NewAssertion → Type 0
 HasPayload a = IsPayload a.kind a.bytes
 
--- so are those of all new assertions of an object, if these are in their form
+-- the bytes of all new assertions of an object are for their content boxes, if these assertions are in their form
 abbrev pub HavePayloads : Data → Type 0
 HavePayloads v = (list : List NewAssertion) → assertions_in v ≡ Some list → AllByRecursion HasPayload list
 
@@ -204,7 +204,7 @@ definition_in payloads file =
     if nat_lt MAX_INPUT_LEN (length file) then Err field.Size
     else require field.Json (object_of file) (definition_of payloads)
 
--- it is told whether the new assertions of a file have their payloads
+-- the flag says whether the new assertions of a file have their payloads
 abbrev pub TellsPayloads : Bool → List ℕ → Type 0
 TellsPayloads payloads file = (payloads ≡ true) ↔ ((v : Data) → object_of file ≡ Some v → HavePayloads v)
 

@@ -11,10 +11,7 @@ pub fn each_definition_is_read_one_way()
         × IsDefinition file r }
     ensures one { (file : List ℕ) (r s : Result Definition DefinitionField)
         → IsDefinition file r → IsDefinition file s → r ≡ s }
-{
-    // Only the prover needs this law.
-    c2_cbor_spec::each_list_is_an_item_or_not();
-}
+{}
 
 /// A definition that a file is keeps what is asked of its fields.
 pub fn definitions_are_well_formed()

@@ -17,7 +17,6 @@ use std::alloc::Global;
 fn is_whole_item(alloc: Global, bytes: &[u8]) -> Result<bool, NoMemory>
     ensures { IfOk result (λ yes. (yes ≡ true) ↔ file.IsWholeItem bytes.now) }
 {
-    // Only the prover needs this law.
     each_list_is_an_item_or_not();
     match decode_whole(alloc, bytes) {
         Ok(_item) => Ok(true),

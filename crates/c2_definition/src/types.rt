@@ -26,10 +26,10 @@ pub enum Payload {
 /// An assertion of the new manifest.
 #[derive(Debug, Drop)]
 pub struct NewAssertion {
-    /// Its label.
+    /// The label of the assertion.
     pub label: Text,
 
-    /// Its content box.
+    /// The content box of the assertion.
     pub kind: Payload,
 
     /// The bytes in that box.

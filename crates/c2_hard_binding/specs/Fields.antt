@@ -37,9 +37,9 @@ HasBoxesInside len (Data d) = ⊤
 HasBoxesInside len (Bmff h roots) = All (IsBoxWithin len) roots.now
 
 -- in a file with these bytes the fields come to this binding: root boxes that were read are those of the file
-abbrev pub ComesTo : List ℕ → HardBinding → Binding → Type 0
-ComesTo file (Data d) b = b ≡ data_binding_of file d
-ComesTo file (Bmff h roots) b =
+abbrev pub IsBindingFields : List ℕ → HardBinding → Binding → Type 0
+IsBindingFields file (Data d) b = b ≡ data_binding_of file d
+IsBindingFields file (Bmff h roots) b =
     (boxes : List Box) × HasRoots file boxes × (roots.now ≡ rows_of boxes)
     × IsBoxBinding boxes (length file) h b
 
@@ -51,10 +51,11 @@ code_of (Bmff h roots) = code.AssertionBmffHashMismatch
 -- where an item comes to this in a file with these bytes, this was read of it: fields that come to the binding, or the refusal of a field,
 -- unless memory ran out
 abbrev pub ReadsTo : List ℕ → Result HardBinding FieldError → Result Binding FieldError → Type 0
-ReadsTo file (Ok h) b = (x : Binding) × (b ≡ Ok x) × ComesTo file h x
+ReadsTo file (Ok h) b = (x : Binding) × (b ≡ Ok x) × IsBindingFields file h x
 ReadsTo file (Err e) b = (e ≡ field.NoMemory) ⊎ (b ≡ Err e)
 
--- the same of an item of this kind, whatever it comes to in a file of this container
+-- an item of this kind was read to this result: whatever binding or refusal the item comes to in a file of this container, the result's
+-- fields come to that binding, or the result is that refusal, unless memory ran out
 abbrev pub ReadsAs : Container → Kind → Item → Result HardBinding FieldError → Type 0
 ReadsAs c kind v result =
     (file : List ℕ) (m : rules.Media) → IsMediaOf file c m

@@ -12,9 +12,9 @@ ghost use Rattle.c2_rules.specs.Ingredients.{assertion_uri};
 ghost use Rattle.c2_rules.specs.Rules as rules;
 ghost use Rattle.c2_opening.specs.Media.{IsMediaOf};
 ghost use Rattle.c2_container.specs.Contained.{HasRootsInside};
-ghost use Rattle.c2_opening.specs.Opened.{IsCause};
+ghost use Rattle.c2_opening.specs.Opened.{IsOpeningCause};
 ghost use Rattle.c2_base.specs.Source.{ReadsSource};
-ghost use Rattle.c2_hard_binding.specs.Fields.{ComesTo, HasBoxesInside, ReadsTo, code_of};
+ghost use Rattle.c2_hard_binding.specs.Fields.{IsBindingFields, HasBoxesInside, ReadsTo, code_of};
 ghost use Rattle.c2_hard_binding.specs.Found.{HasSize, IsBoundAs, IsItemBound};
 
 use crate::binding::{binding_item, binding_label, read_payload};
@@ -22,38 +22,42 @@ use crate::fields::HardBinding;
 use c2_assertion::FieldError;
 use c2_base::limits::PIECE_LEN;
 use c2_base::{Failed, NoMemory, Source, Text};
-use c2_cbor_spec::one_item;
 use c2_check_facts::{alg_name, label_kind};
 use c2_container::Container;
 use c2_cover::{Cover, CoverError, digest_cover};
 use c2_hash::{Alg, Digest, Hashing, alg_of};
 use c2_opening::ValidateError;
-use c2_read_manifests::{Kept, label};
+use c2_read_manifests::{ReadManifest, label};
 use c2_rules::{Code, Failing};
 use std::alloc::Global;
 
 /// What a binding covers of its media file.
 #[derive(Drop)]
 pub struct BoundText {
-    /// Which bytes it covers.
+    /// Which bytes of the file the binding covers.
     pub cover: Cover,
 
-    /// The name of the algorithm of its digest.
+    /// The name of the algorithm of the binding's digest.
     pub alg: Text,
 }
 
 /// What was found of a binding.
 #[derive(Drop)]
 pub enum Bound {
-    /// It fails.
+    /// A rule on the binding fails.
     Fails(Failing),
 
-    /// It holds, and covers this of the file.
+    /// All rules on the binding hold, and it covers this of the file.
     Holds(BoundText),
 }
 
 /// This fails at the binding with this label.
-fn fails(alloc: Global, own: &Kept<'_>, name: &str, code: Code) -> Result<Bound, ValidateError>
+fn fails(
+    alloc: Global,
+    own: &ReadManifest<'_>,
+    name: &str,
+    code: Code,
+) -> Result<Bound, ValidateError>
     ensures found { IfOk result (λ found. found ≡ Bound.Fails
         (record { code = code; uri = assertion_uri (label_in own.now) name.now })) }
     ensures cause { IfErr result (λ e. e ≡ ValidateError.NoMemory) }
@@ -70,7 +74,7 @@ fn fails(alloc: Global, own: &Kept<'_>, name: &str, code: Code) -> Result<Bound,
 
 /// A manifest without a binding fails.
 #[tactic(auto, using(crate::proofs::Texts::nothing_after))]
-fn fails_unbound(alloc: Global, own: &Kept<'_>) -> Result<Bound, ValidateError>
+fn fails_unbound(alloc: Global, own: &ReadManifest<'_>) -> Result<Bound, ValidateError>
     ensures found { IfOk result (λ found. found ≡ Bound.Fails
         (record { code = Code.AssertionCborInvalid; uri = rules.manifest_uri own.now })) }
     ensures cause { IfErr result (λ e. e ≡ ValidateError.NoMemory) }
@@ -102,7 +106,7 @@ fn field_code(error: FieldError) -> Result<Code, NoMemory>
 }
 
 /// The algorithm of a binding, where it is known.
-fn known_alg(own: &Kept<'_>, alg: &Option<Text>) -> Option<Alg>
+fn known_alg(own: &ReadManifest<'_>, alg: &Option<Text>) -> Option<Alg>
     ensures { result ≡ alg_named (rules.alg_in own.now alg.now) }
 {
     alg_of(alg_name(own, alg))
@@ -118,7 +122,7 @@ fn covered_digest<S: Source, H: Hashing>(
 ) -> Result<Digest, ValidateError>
     requires { S.len source.old ≡ cover.now.size }
     ensures digest { IfOk result (IsDigestOf (H.digest_of alg) cover.now (S.known source.old)) }
-    ensures reads { ReadsSource S.len S.known S.faults IsCause source.old source.new result }
+    ensures reads { ReadsSource S.len S.known S.faults IsOpeningCause source.old source.new result }
 {
     let mut buf = match vec![in alloc; 0; PIECE_LEN] {
         Ok(buf) => buf,
@@ -142,17 +146,17 @@ fn check_fields<S: Source, H: Hashing>(
     alloc: Global,
     hashing: &H,
     source: &mut S,
-    own: &Kept<'_>,
+    own: &ReadManifest<'_>,
     name: &str,
     fields: &HardBinding<'_>,
 ) -> Result<Bound, ValidateError>
     requires { HasBoxesInside (S.len source.old) fields.now }
     ensures found { let uri = assertion_uri (label_in own.now) name.now in
         ForSome (S.known source.old) (λ file. (kind : AnyKind) (b : Binding)
-        → code_of fields.now ≡ form.mismatch_code kind → ComesTo file fields.now b
+        → code_of fields.now ≡ form.mismatch_code kind → IsBindingFields file fields.now b
         → IfOk result (IsItemBound H.digest_of own.now uri kind file (Ok b))) }
     ensures size { IfOk result (HasSize (S.len source.old)) }
-    ensures reads { ReadsSource S.len S.known S.faults IsCause source.old source.new result }
+    ensures reads { ReadsSource S.len S.known S.faults IsOpeningCause source.old source.new result }
 {
     let Some(alg) = known_alg(own, fields.alg()) else {
         return fails(alloc, own, name, Code::AlgorithmUnsupported);
@@ -182,7 +186,7 @@ fn check_read<S: Source, H: Hashing>(
     alloc: Global,
     hashing: &H,
     source: &mut S,
-    own: &Kept<'_>,
+    own: &ReadManifest<'_>,
     name: &str,
     read: &Result<HardBinding<'_>, FieldError>,
 ) -> Result<Bound, ValidateError>
@@ -193,7 +197,7 @@ fn check_read<S: Source, H: Hashing>(
         → IfOk read.now (λ h. code_of h ≡ form.mismatch_code kind) → ReadsTo file read.now b
         → IfOk result (IsItemBound H.digest_of own.now uri kind file b)) }
     ensures size { IfOk result (HasSize (S.len source.old)) }
-    ensures reads { ReadsSource S.len S.known S.faults IsCause source.old source.new result }
+    ensures reads { ReadsSource S.len S.known S.faults IsOpeningCause source.old source.new result }
 {
     let error = match read {
         Ok(fields) => return check_fields(alloc, hashing, source, own, name, fields),
@@ -214,7 +218,7 @@ pub fn check_binding<S: Source, H: Hashing>(
     hashing: &H,
     source: &mut S,
     container: &Container,
-    own: &Kept<'_>,
+    own: &ReadManifest<'_>,
 ) -> Result<Bound, ValidateError>
     requires { HasRootsInside (S.len source.old) container.now }
     ensures found { ForSome (S.known source.old) (λ file.
@@ -222,10 +226,8 @@ pub fn check_binding<S: Source, H: Hashing>(
         → (b : AnyOption (AnyResult Binding AnyFieldError)) → form.HasBinding m own.now b
         → IfOk result (IsBoundAs H.digest_of own.now file b)) }
     ensures size { IfOk result (HasSize (S.len source.old)) }
-    ensures reads { ReadsSource S.len S.known S.faults IsCause source.old source.new result }
+    ensures reads { ReadsSource S.len S.known S.faults IsOpeningCause source.old source.new result }
 {
-    // Only the prover needs this law.
-    one_item();
     let Some(name) = binding_label(own) else {
         return fails_unbound(alloc, own);
     };

@@ -22,10 +22,10 @@ use std::alloc::Global;
 /// The fields of a binding, by its kind.
 #[derive(Drop)]
 pub enum HardBinding<'c> {
-    /// Of a data hash.
+    /// The fields of a data hash.
     Data(DataHash),
 
-    /// Of a BMFF hash, over the root boxes of its file.
+    /// The fields of a BMFF hash, and the root boxes of its file.
     Bmff(BmffHash, &'c Roots),
 }
 
@@ -57,7 +57,7 @@ fn bmff_exclusions(fields: &BmffHash) -> &[Exclusion]
 }
 
 impl<'c> HardBinding<'c> {
-    ghost use Rattle.c2_hard_binding.specs.Fields.{ComesTo, CoversAs, HasBoxesInside, HasNoCover, IsCoverCause, ReadsAs, code_of, named_alg, named_hash};
+    ghost use Rattle.c2_hard_binding.specs.Fields.{IsBindingFields, CoversAs, HasBoxesInside, HasNoCover, IsCoverCause, ReadsAs, code_of, named_alg, named_hash};
 
     /// The fields of an item of this kind, in a file of this container, or the first that is refused.
     pub fn read(
@@ -117,11 +117,11 @@ impl<'c> HardBinding<'c> {
         }
     }
 
-    /// What they cover of the file. `BadRange` comes exactly where the ranges of a data hash aren't in order in it.
+    /// What a binding with these fields covers of the file. `BadRange` comes exactly where the ranges of a data hash aren't in order in it.
     pub fn cover<S: Source>(&self, alloc: Global, source: &mut S) -> Result<Cover, CoverError>
         requires { HasBoxesInside (S.len source.old) self.now }
         ensures cover { ForSome (S.known source.old) (λ file.
-            (b : Binding) → ComesTo file self.now b
+            (b : Binding) → IsBindingFields file self.now b
             → MatchResult result (CoversAs file b) (HasNoCover b)) }
         ensures size { IfOk result (λ c. c.size ≡ S.len source.old) }
         ensures reads { ReadsSource S.len S.known S.faults IsCoverCause

@@ -5,11 +5,13 @@ use Rattle.c2_spec.specs.Digest.{most_digest_len}
 use Rattle.c2_hash.specs.Padded.{IsPadded, padded}
 
 -- a list that is copied into zeros is padded
-pub copied : (list : List ℕ) → length list ≤ most_digest_len → IsPadded (list ++ drop (length list) (replicate most_digest_len 0)) (length list)
+pub copied : (list : List ℕ) → length list ≤ most_digest_len
+    → IsPadded (list ++ drop (length list) (replicate most_digest_len 0)) (length list)
 copied list fits =
     let rest : drop (length list) (replicate most_digest_len 0) ≡ replicate (most_digest_len - length list) 0 =
     drop-replicate (length list) most_digest_len 0 in
-    let whole : list ++ drop (length list) (replicate most_digest_len 0) ≡ padded list = ap (λ (z : List ℕ). list ++ z) rest in
+    let whole : list ++ drop (length list) (replicate most_digest_len 0) ≡ padded list =
+    ap (λ (z : List ℕ). list ++ z) rest in
     let front : take (length list) (list ++ drop (length list) (replicate most_digest_len 0)) ≡ list =
     take_at list (drop (length list) (replicate most_digest_len 0)) (length list) refl in
     record {

@@ -38,7 +38,7 @@ low_bits n = mod_below n (2 ^ 8) (lit< tt)
 word_bytes : (n : ℕ) → All (λ b. b < 2 ^ 8) (to_be_bytes w32 n)
 word_bytes n = All-from_recursion (λ b. b < 2 ^ 8) (to_be_bytes w32 n) (low_bits _, (low_bits _, (low_bits _, (low_bits n, tt))))
 
--- and the eight of a long one
+-- the eight bytes of a long word are bytes
 long_word_bytes : (n : ℕ) → All (λ b. b < 2 ^ 8) (to_be_bytes w64 n)
 long_word_bytes n =
     All-from_recursion (λ b. b < 2 ^ 8) (to_be_bytes w64 n)
@@ -50,7 +50,7 @@ unfolding digest_bytes
 digest_bytes-All h zero = All-nil (λ b. b < 2 ^ 8)
 digest_bytes-All h (suc n) = All-append (λ b. b < 2 ^ 8) (digest_bytes h n) (to_be_bytes w32 (slice_index h n)) (digest_bytes-All h n) (word_bytes (slice_index h n))
 
--- and of one in long words
+-- all numbers of a digest in long words are bytes
 long_bytes-All : (h : List ℕ) (n : ℕ) → All (λ b. b < 2 ^ 8) (long.digest_bytes h n)
 unfolding long.digest_bytes
 long_bytes-All h zero = All-nil (λ b. b < 2 ^ 8)

@@ -23,7 +23,7 @@ bytes_take zero xs h = tt
 bytes_take (suc n) [] h = tt
 bytes_take (suc n) (x ∷ xs) h = (h.0, bytes_take n xs h.1)
 
--- those behind the first are
+-- what is left of bytes behind the first `n` is bytes
 bytes_drop : (n : ℕ) (xs : List ℕ) → AllByRecursion (λ b. b < 2 ^ 8) xs → AllByRecursion (λ b. b < 2 ^ 8) (drop n xs)
 bytes_drop zero xs h = h
 bytes_drop (suc n) [] h = tt
@@ -43,13 +43,13 @@ put_in_size place piece (Some file) len h bytes e =
     let is : bytes ≡ put_in place piece file = cc (e) in
     ap length is ∙ put_in_len place piece file ∙ ap (λ (n : ℕ). n + length piece) (h file refl)
 
--- it has bytes, where the file and the piece have
+-- a known file with a piece put in is bytes, where the file and the piece are
 pub put_in_bytes : (place : ℕ) (piece : List ℕ) (known : Option (List ℕ)) → All (λ b. b < 2 ^ 8) piece → ForSome known (All (λ b. b < 2 ^ 8)) → ForSome (option_map (put_in place piece) known) (All (λ b. b < 2 ^ 8))
 put_in_bytes place piece None are h bytes e = absurd (cc (e))
 put_in_bytes place piece (Some file) are h bytes e =
     let is : bytes ≡ put_in place piece file = cc (e) in
     subst (All (λ b. b < 2 ^ 8)) (sym is) (put_in_all place piece file are (h file refl))
 
--- its length fits into 64 bits
+-- the length of a file with a piece put in fits into 64 bits, where the sum for the stated length does
 pub put_in_fits : (named len : ℕ) (piece : List ℕ) → len ≡ named → named + length piece < 2 ^ 64 → len + length piece < 2 ^ 64
 put_in_fits named len piece same h = omega (arith, same, h)

@@ -7,18 +7,24 @@ use Rattle.c2_spec.specs.Jpeg.Places.{IsOfSegments, IsInsertPlace, HasNumber}
 
 -- SOI, the APP0 segment of JFIF, and EOI, in 22 bytes
 abbrev small_file : List ℕ
-small_file = 0xFF ∷ 0xD8 ∷ 0xFF ∷ 0xE0 ∷ 0x00 ∷ 0x10 ∷ 0x4A ∷ 0x46 ∷ 0x49 ∷ 0x46 ∷ 0x00 ∷ 0x01 ∷ 0x02 ∷ 0x00 ∷ 0x00 ∷ 0x01 ∷ 0x00 ∷ 0x01 ∷ 0x00 ∷ 0x00 ∷ 0xFF ∷ 0xD9 ∷ []
+small_file =
+    0xFF ∷ 0xD8 ∷ 0xFF ∷ 0xE0 ∷ 0x00 ∷ 0x10 ∷ 0x4A ∷ 0x46 ∷ 0x49 ∷ 0x46 ∷ 0x00 ∷ 0x01 ∷ 0x02 ∷ 0x00 ∷ 0x00 ∷ 0x01 ∷ 0x00
+    ∷ 0x01 ∷ 0x00 ∷ 0x00 ∷ 0xFF ∷ 0xD9 ∷ []
 
--- its segment
+-- the APP0 segment of JFIF
 abbrev jfif : Segment
-jfif = record { fill = 0; marker = 0xE0; payload = 0x4A ∷ 0x46 ∷ 0x49 ∷ 0x46 ∷ 0x00 ∷ 0x01 ∷ 0x02 ∷ 0x00 ∷ 0x00 ∷ 0x01 ∷ 0x00 ∷ 0x01 ∷ 0x00 ∷ 0x00 ∷ [] }
+jfif =
+    record
+    { fill = 0; marker = 0xE0; payload = 0x4A ∷ 0x46 ∷ 0x49 ∷ 0x46 ∷ 0x00 ∷ 0x01 ∷ 0x02 ∷ 0x00 ∷ 0x00 ∷ 0x01 ∷ 0x00 ∷ 0x01 ∷ 0x00 ∷ 0x00 ∷ [] }
 
--- it has no other
+-- the small file has one segment
 pub one_segment : IsOfSegments small_file (jfif ∷ [])
 one_segment = record {
   fits = lit< tt;
   rest = 0xFF ∷ 0xD9 ∷ [];
-  begins = record { bytes = refl; each = (record { marker = refl; alone = λ h. absurd (false≢true h); fits = lit< tt }, tt) };
+  begins =
+      record
+      { bytes = refl; each = (record { marker = refl; alone = λ h. absurd (false≢true h); fits = lit< tt }, tt) };
   ends = record { fill = 0; marker = 0xD9; more = []; bytes = refl; ends = inl refl };
 }
 
@@ -31,25 +37,26 @@ pub number_0x0211 : HasNumber small_file (Some 0x0211)
 number_0x0211 = record {
   segments = jfif ∷ [];
   is_of = one_segment;
-  number_is = record { least = lit≤ tt; most = lit< tt; free = refl; first = λ n low high. absurd (omega (arith, low, high)) };
+  number_is =
+      record { least = lit≤ tt; most = lit< tt; free = refl; first = λ n low high. absurd (omega (arith, low, high)) };
 }
 
 -- the packet of the least store has 50 bytes
 pub size_38 : segments_len 38 ≡ 50
 size_38 = refl
 
--- that of a store of 1,129 bytes has 1,141
+-- the packet of a store of 1,129 bytes has 1,141 bytes
 pub size_1129 : segments_len 1129 ≡ 1141
 size_1129 = refl
 
--- that of the largest store in one packet
+-- the packet of the largest store in one packet has 64,004 bytes
 pub size_63992 : segments_len 63992 ≡ 64004
 size_63992 = refl
 
--- those of the least store in two
+-- the size of the packets of the least store in two
 pub size_63993 : segments_len 63993 ≡ 64025
 size_63993 = refl
 
--- those of the largest store
+-- the size of the packets of the largest store
 pub size_33554432 : segments_len 33554432 ≡ 33564924
 size_33554432 = refl

@@ -20,7 +20,9 @@ room_len body = omega (arith, length-take PACKET_BODY_LEN body)
 
 -- the packets after the first hold the bytes after its piece
 pub next : (k : ℕ) (body : List ℕ) → Holds (suc k) (length body) → Holds k (length (drop PACKET_BODY_LEN body))
-next k body h = record { enough = omega (arith, h.enough, length-drop PACKET_BODY_LEN body); none_empty = omega (arith, h.none_empty, length-drop PACKET_BODY_LEN body) }
+next k body h =
+    record
+    { enough = omega (arith, h.enough, length-drop PACKET_BODY_LEN body); none_empty = omega (arith, h.none_empty, length-drop PACKET_BODY_LEN body) }
 
 -- the piece of the first is not empty
 some_bytes : (k : ℕ) (body : List ℕ) → Holds (suc k) (length body) → 0 < length (take PACKET_BODY_LEN body)
@@ -32,28 +34,32 @@ pub record IsFrame (len en : ℕ) : Type 0 where
   pub most : len < 2 ^ 32
   pub en_fits : en < 2 ^ 16
 
--- so the first of them is made of a piece
+-- the first packet of a run is made of a piece
 pub piece : (len en z : ℕ) (body : List ℕ) → IsFrame len en → z < 2 ^ 32 → IsPiece len en z (take PACKET_BODY_LEN body)
-piece len en z body f lt = record { least = f.least; most = f.most; en_fits = f.en_fits; z_fits = lt; room = room_len body }
+piece len en z body f lt =
+    record { least = f.least; most = f.most; en_fits = f.en_fits; z_fits = lt; room = room_len body }
 
 -- all of them are segments
 pub all_legal : (len en k z : ℕ) (body : List ℕ) → IsFrame len en → z + k ≤ 2 ^ 32
     → AllByRecursion IsSegment (packets_from (head_of len) en k z body)
 all_legal len en zero z body f le = tt
-all_legal len en (suc k) z body f le = (made_legal len en z (take PACKET_BODY_LEN body) (piece len en z body f (omega arith)), all_legal len en k (z + 1) (drop PACKET_BODY_LEN body) f (omega arith))
+all_legal len en (suc k) z body f le =
+    (made_legal len en z (take PACKET_BODY_LEN body) (piece len en z body f (omega arith)), all_legal len en k (z + 1) (drop PACKET_BODY_LEN body) f (omega arith))
 
 -- all are packets
 pub all_packets : (len en k z : ℕ) (body : List ℕ) → IsFrame len en → z + k ≤ 2 ^ 32
     → AllByRecursion (λ s. is_packet s ≡ true) (packets_from (head_of len) en k z body)
 all_packets len en zero z body f le = tt
-all_packets len en (suc k) z body f le = (made_packet len en z (take PACKET_BODY_LEN body) (piece len en z body f (omega arith)), all_packets len en k (z + 1) (drop PACKET_BODY_LEN body) f (omega arith))
+all_packets len en (suc k) z body f le =
+    (made_packet len en z (take PACKET_BODY_LEN body) (piece len en z body f (omega arith)), all_packets len en k (z + 1) (drop PACKET_BODY_LEN body) f (omega arith))
 
--- they are numbered one after the other
+-- the packets of a store are numbered one after the other
 pub all_numbers : (len en k z : ℕ) (body : List ℕ) → IsFrame len en → z + k ≤ 2 ^ 32
     → map (λ s. (packet_in s).z) (packets_from (head_of len) en k z body) ≡ range_with_len z k
 all_numbers len en zero z body f le = refl
 all_numbers len en (suc k) z body f le =
-    ap (λ n. n ∷ map (λ s. (packet_in s).z) (packets_from (head_of len) en k (z + 1) (drop PACKET_BODY_LEN body))) (made_z len en z (take PACKET_BODY_LEN body) (piece len en z body f (omega arith)))
+    ap (λ n. n ∷ map (λ s. (packet_in s).z) (packets_from (head_of len) en k (z + 1) (drop PACKET_BODY_LEN body)))
+    (made_z len en z (take PACKET_BODY_LEN body) (piece len en z body f (omega arith)))
     ∙ ap (λ (x : List ℕ). z ∷ x) (all_numbers len en k (z + 1) (drop PACKET_BODY_LEN body) f (omega arith))
 
 -- the segment has this box instance number and the header of a store of so many bytes
@@ -88,13 +94,16 @@ no_more : (body : List ℕ) → Holds 0 (length body) → body ≡ []
 no_more [] h = refl
 no_more (b ∷ bs) h = absurd (omega (arith, h.enough))
 
--- their pieces in order are the bytes that they hold
+-- the pieces of packets in order are the bytes that they hold
 pub joined : (len en k z : ℕ) (body : List ℕ) → IsFrame len en → z + k ≤ 2 ^ 32 → Holds k (length body)
     → flat_map (λ s. (packet_in s).body) (packets_from (head_of len) en k z body) ≡ body
 joined len en zero z body f le h = sym (no_more body h)
 joined len en (suc k) z body f le h =
-    ap (λ (x : List ℕ). x ++ flat_map (λ s. (packet_in s).body) (packets_from (head_of len) en k (z + 1) (drop PACKET_BODY_LEN body))) (made_body len en z (take PACKET_BODY_LEN body) (piece len en z body f (omega arith)))
-    ∙ ap (λ (x : List ℕ). take PACKET_BODY_LEN body ++ x) (joined len en k (z + 1) (drop PACKET_BODY_LEN body) f (omega arith) (next k body h))
+    ap
+    (λ (x : List ℕ). x ++ flat_map (λ s. (packet_in s).body) (packets_from (head_of len) en k (z + 1) (drop PACKET_BODY_LEN body)))
+    (made_body len en z (take PACKET_BODY_LEN body) (piece len en z body f (omega arith)))
+    ∙ ap (λ (x : List ℕ). take PACKET_BODY_LEN body ++ x)
+    (joined len en k (z + 1) (drop PACKET_BODY_LEN body) f (omega arith) (next k body h))
     ∙ take-append-drop PACKET_BODY_LEN body
 
 -- together they have 20 bytes each and those that they hold
@@ -102,10 +111,12 @@ pub run_len : (len en k z : ℕ) (body : List ℕ) → Holds k (length body)
     → length (flat_map segment_bytes (packets_from (head_of len) en k z body)) ≡ 20 * k + length body
 run_len len en zero z body h = omega (arith, h.enough)
 run_len len en (suc k) z body h =
-    let more : length (flat_map segment_bytes (packets_from (head_of len) en k (z + 1) (drop PACKET_BODY_LEN body))) ≡ 20 * k + length (drop PACKET_BODY_LEN body) = run_len len en k (z + 1) (drop PACKET_BODY_LEN body) (next k body h) in
+    let more : length (flat_map segment_bytes (packets_from (head_of len) en k (z + 1) (drop PACKET_BODY_LEN body))) ≡ 20 * k + length (drop PACKET_BODY_LEN body) =
+    run_len len en k (z + 1) (drop PACKET_BODY_LEN body) (next k body h) in
     let whole : length (flat_map segment_bytes (packets_from (head_of len) en (suc k) z body)) ≡ length (segment_bytes (made len en z (take PACKET_BODY_LEN body))) + length (flat_map segment_bytes (packets_from (head_of len) en k (z + 1) (drop PACKET_BODY_LEN body)))
     = length-append (segment_bytes (made len en z (take PACKET_BODY_LEN body))) (flat_map segment_bytes (packets_from (head_of len) en k (z + 1) (drop PACKET_BODY_LEN body))) in
-    omega (arith, more, whole, bytes_len len en z (take PACKET_BODY_LEN body), length-take PACKET_BODY_LEN body, length-drop PACKET_BODY_LEN body)
+    omega
+    (arith, more, whole, bytes_len len en z (take PACKET_BODY_LEN body), length-take PACKET_BODY_LEN body, length-drop PACKET_BODY_LEN body)
 
 -- there are as many as were asked for
 pub numbers_len : (header : List ℕ) (en k z : ℕ) (body : List ℕ) → length (packets_from header en k z body) ≡ k
@@ -122,29 +133,37 @@ count_holds n le = record { enough = omega arith; none_empty = omega arith }
 pub split_store : (store : List ℕ) → IsPacketStore store → store ≡ head_of (length store) ++ drop 8 store
 split_store store h =
     let front : take 8 store ≡ take 4 store ++ take 4 (drop 4 store) = take_split store in
-    sym (take-append-drop 8 store) ∙ ap (λ (x : List ℕ). x ++ drop 8 store) (front ∙ ap (λ (x : List ℕ). x ++ take 4 (drop 4 store)) h.lbox ∙ ap (λ (x : List ℕ). to_be_bytes w32 (length store) ++ x) h.tbox)
+    sym (take-append-drop 8 store)
+    ∙ ap (λ (x : List ℕ). x ++ drop 8 store)
+    (front ∙ ap (λ (x : List ℕ). x ++ take 4 (drop 4 store)) h.lbox ∙ ap (λ (x : List ℕ). to_be_bytes w32 (length store) ++ x) h.tbox)
   where
     take_split : (xs : List ℕ) → take 8 xs ≡ take 4 xs ++ take 4 (drop 4 xs)
-    take_split xs = sym (take-append-drop 4 (take 8 xs)) ∙ ap (λ (x : List ℕ). x ++ drop 4 (take 8 xs)) (take-take 4 8 xs (omega arith)) ∙ ap (λ (x : List ℕ). take 4 xs ++ x) (drop-take 4 4 xs)
+    take_split xs =
+        sym (take-append-drop 4 (take 8 xs))
+        ∙ ap (λ (x : List ℕ). x ++ drop 4 (take 8 xs)) (take-take 4 8 xs (omega arith))
+        ∙ ap (λ (x : List ℕ). take 4 xs ++ x) (drop-take 4 4 xs)
 
--- its first 8 bytes are that head
+-- the first 8 bytes of a store are its head
 pub front_store : (store : List ℕ) → IsPacketStore store → take 8 store ≡ head_of (length store)
 front_store store h = ap (take 8) (split_store store h)
 
--- its packets share its length and a number
+-- the packets of a store share its length and a number
 pub frame : (store : List ℕ) (en : ℕ) → IsPacketStore store → en ≤ 0xFFFF → IsFrame (length store) en
-frame store en h le = record { least = omega (arith, h.sized.least); most = omega (arith, h.sized.most); en_fits = omega arith }
+frame store en h le =
+    record { least = omega (arith, h.sized.least); most = omega (arith, h.sized.most); en_fits = omega arith }
 
 -- the packets of a store, with the header written out
 pub packets_are : (store : List ℕ) (en : ℕ) → IsPacketStore store
     → packets_of store en ≡ packets_from (head_of (length store)) en (packet_count (length store)) 1 (drop 8 store)
-packets_are store en h = ap (λ (x : List ℕ). packets_from x en (packet_count (length store)) 1 (drop 8 store)) (front_store store h)
+packets_are store en h =
+    ap (λ (x : List ℕ). packets_from x en (packet_count (length store)) 1 (drop 8 store)) (front_store store h)
 
 -- as many packets as are counted hold it
 pub body_len : (store : List ℕ) → IsPacketStore store → Holds (packet_count (length store)) (length (drop 8 store))
-body_len store h = subst (Holds (packet_count (length store))) (sym (length-drop 8 store)) (count_holds (length store) h.sized.least)
+body_len store h =
+    subst (Holds (packet_count (length store))) (sym (length-drop 8 store)) (count_holds (length store) h.sized.least)
 
--- they are few enough to be numbered
+-- the packets of a store are few enough to be numbered
 pub few : (store : List ℕ) → IsPacketStore store → 1 + packet_count (length store) ≤ 2 ^ 32
 few store h = let c = count_holds (length store) h.sized.least in omega (arith, c.none_empty, h.sized.most)
 
@@ -152,7 +171,8 @@ few store h = let c = count_holds (length store) h.sized.least in omega (arith, 
 pub store_len : (store : List ℕ) (en : ℕ) → IsPacketStore store
     → length (packets_bytes store en) ≡ segments_len (length store)
 store_len store en h =
-    let n : length (flat_map segment_bytes (packets_from (head_of (length store)) en (packet_count (length store)) 1 (drop 8 store))) ≡ 20 * packet_count (length store) + length (drop 8 store) = run_len (length store) en (packet_count (length store)) 1 (drop 8 store) (body_len store h) in
+    let n : length (flat_map segment_bytes (packets_from (head_of (length store)) en (packet_count (length store)) 1 (drop 8 store))) ≡ 20 * packet_count (length store) + length (drop 8 store) =
+    run_len (length store) en (packet_count (length store)) 1 (drop 8 store) (body_len store h) in
     ap (λ (ss : List Segment). length (flat_map segment_bytes ss)) (packets_are store en h) ∙ n ∙ total
   where
     total : 20 * packet_count (length store) + length (drop 8 store) ≡ segments_len (length store)
@@ -161,4 +181,6 @@ store_len store en h =
 -- all of them are segments, in the words of the definition
 pub packets_legal : (store : List ℕ) (en : ℕ) → IsPacketStore store → en ≤ 0xFFFF
     → AllByRecursion IsSegment (packets_of store en)
-packets_legal store en h le = subst (AllByRecursion IsSegment) (sym (packets_are store en h)) (all_legal (length store) en (packet_count (length store)) 1 (drop 8 store) (frame store en h le) (few store h))
+packets_legal store en h le =
+    subst (AllByRecursion IsSegment) (sym (packets_are store en h))
+    (all_legal (length store) en (packet_count (length store)) 1 (drop 8 store) (frame store en h le) (few store h))

@@ -22,7 +22,9 @@ first_test : (p : Packet) (len : ℕ) → p.z ≡ 1 → p.header ≡ head_of len
     → take 4 (drop 4 p.body) ≡ to_be_bytes w32 JUMD → take 16 (drop 8 p.body) ≡ STORE_TYPE → is_first_packet p ≡ true
 unfolding is_first_packet
 first_test p len z h n d t =
-    and_from ((p.z == 1) && (header_tbox p.header == JUMB) && leb 24 (length p.body) && (from_be_bytes w32 (take 4 (drop 4 p.body)) == JUMD)) (bytes_eq (take 16 (drop 8 p.body)) STORE_TYPE)
+    and_from
+    ((p.z == 1) && (header_tbox p.header == JUMB) && leb 24 (length p.body) && (from_be_bytes w32 (take 4 (drop 4 p.body)) == JUMD))
+    (bytes_eq (take 16 (drop 8 p.body)) STORE_TYPE)
     (and_from ((p.z == 1) && (header_tbox p.header == JUMB) && leb 24 (length p.body)) (from_be_bytes w32 (take 4 (drop 4 p.body)) == JUMD)
     (and_from ((p.z == 1) && (header_tbox p.header == JUMB)) (leb 24 (length p.body))
     (and_from (p.z == 1) (header_tbox p.header == JUMB) (eq-eqb p.z 1 z) (ap (λ (x : List ℕ). header_tbox x == JUMB) h))
@@ -40,8 +42,14 @@ record IsFirstBody (body : List ℕ) : Type 0 where
 first_body : (store : List ℕ) → IsPacketStore store → IsFirstBody (take PACKET_BODY_LEN (drop 8 store))
 first_body store h = record {
   long = omega (arith, length-take PACKET_BODY_LEN (drop 8 store), length-drop 8 store, h.sized.least);
-  described = ap (take 4) (drop-take 4 (PACKET_BODY_LEN - 4) (drop 8 store)) ∙ take-take 4 (PACKET_BODY_LEN - 4) (drop 4 (drop 8 store)) (omega arith) ∙ ap (take 4) (drop-drop 4 8 store) ∙ h.described;
-  of_c2pa = ap (take 16) (drop-take 8 (PACKET_BODY_LEN - 8) (drop 8 store)) ∙ take-take 16 (PACKET_BODY_LEN - 8) (drop 8 (drop 8 store)) (omega arith) ∙ ap (take 16) (drop-drop 8 8 store) ∙ h.of_c2pa;
+  described =
+      ap (take 4) (drop-take 4 (PACKET_BODY_LEN - 4) (drop 8 store))
+      ∙ take-take 4 (PACKET_BODY_LEN - 4) (drop 4 (drop 8 store)) (omega arith) ∙ ap (take 4) (drop-drop 4 8 store)
+      ∙ h.described;
+  of_c2pa =
+      ap (take 16) (drop-take 8 (PACKET_BODY_LEN - 8) (drop 8 store))
+      ∙ take-take 16 (PACKET_BODY_LEN - 8) (drop 8 (drop 8 store)) (omega arith) ∙ ap (take 16) (drop-drop 8 8 store)
+      ∙ h.of_c2pa;
 }
 
 -- as a segment it begins a store
@@ -49,12 +57,13 @@ start_of : (s : Segment) → is_packet s ≡ true → is_first_packet (packet_in
 unfolding is_store_start
 start_of s p f = and_from (is_packet s) (is_first_packet (packet_in s)) p f
 
--- so does the first packet that is written
+-- the first packet that is written begins a store
 begins : (store : List ℕ) (en : ℕ) → IsPacketStore store → en ≤ 0xFFFF
     → is_store_start (made (length store) en 1 (take PACKET_BODY_LEN (drop 8 store))) ≡ true
 begins store en h le =
     let f : IsFrame (length store) en = frame store en h le in
-    let p : IsPiece (length store) en 1 (take PACKET_BODY_LEN (drop 8 store)) = piece (length store) en 1 (drop 8 store) f (omega arith) in
+    let p : IsPiece (length store) en 1 (take PACKET_BODY_LEN (drop 8 store)) =
+    piece (length store) en 1 (drop 8 store) f (omega arith) in
     let b = first_body store h in
     start_of _ (made_packet (length store) en 1 (take PACKET_BODY_LEN (drop 8 store)) p)
     (first_test (packet_in (made (length store) en 1 (take PACKET_BODY_LEN (drop 8 store)))) (length store) (made_z (length store) en 1 (take PACKET_BODY_LEN (drop 8 store)) p) (made_header (length store) en 1 (take PACKET_BODY_LEN (drop 8 store)) p)
@@ -75,7 +84,7 @@ not_stray en s h = go (is_packet s) (header_tbox (packet_in s).header == JUMB) (
     go true true false d e = refl
     go true true true d e = absurd (cc (e))
 
--- nor is one of several
+-- of segments without the number none is a stray packet
 pub none_stray : (en a : ℕ) (ss : List Segment) → a ≡ en → is_taken ss en ≡ false
     → AllByRecursion (λ s. is_stray a s ≡ false) ss
 none_stray en a [] e h = tt
@@ -109,12 +118,22 @@ run_holds store en j before after h le count no_before no_after free =
       starts = begins store en h le;
       is_run = record {
         packets = all_packets len en (suc j) 1 body f fits;
-        numbers = all_numbers len en (suc j) 1 body f fits ∙ ap (λ n. range_with_len 1 n) (sym (numbers_len (head_of len) en (suc j) 1 body));
-        same = same_as len en (packet_in first).en (packet_in first).header others (made_en len en 1 (take PACKET_BODY_LEN body) p) (made_header len en 1 (take PACKET_BODY_LEN body) p) (all_same len en j 2 (drop PACKET_BODY_LEN body) f (omega arith));
+        numbers =
+            all_numbers len en (suc j) 1 body f fits
+            ∙ ap (λ n. range_with_len 1 n) (sym (numbers_len (head_of len) en (suc j) 1 body));
+        same =
+            same_as len en (packet_in first).en (packet_in first).header others
+            (made_en len en 1 (take PACKET_BODY_LEN body) p) (made_header len en 1 (take PACKET_BODY_LEN body) p)
+            (all_same len en j 2 (drop PACKET_BODY_LEN body) f (omega arith));
         bodies = all_bodies len en (suc j) 1 body f fits holds;
-        bytes = split_store store h ∙ ap (λ (x : List ℕ). head_of len ++ x) (sym (joined len en (suc j) 1 body f fits holds)) ∙ ap (λ (x : List ℕ). x ++ flat_map (λ s. (packet_in s).body) (first ∷ others)) (sym (made_header len en 1 (take PACKET_BODY_LEN body) p));
+        bytes =
+            split_store store h
+            ∙ ap (λ (x : List ℕ). head_of len ++ x) (sym (joined len en (suc j) 1 body f fits holds))
+            ∙ ap (λ (x : List ℕ). x ++ flat_map (λ s. (packet_in s).body) (first ∷ others))
+            (sym (made_header len en 1 (take PACKET_BODY_LEN body) p));
       };
-      whole = sym (ap stated_length (made_header len en 1 (take PACKET_BODY_LEN body) p) ∙ head_states len f.least f.most);
+      whole =
+          sym (ap stated_length (made_header len en 1 (take PACKET_BODY_LEN body) p) ∙ head_states len f.least f.most);
       small = h.sized.most;
       none_before = no_before;
       none_after = no_after;
@@ -131,5 +150,8 @@ pub packets_hold : (store : List ℕ) (en : ℕ) (before after : List Segment) �
 packets_hold store en before after h le no_before no_after free =
     let n : ℕ = packet_count (length store) - 1 in
     let count : packet_count (length store) ≡ suc n = omega arith in
-    let same : packets_of store en ≡ packets_from (head_of (length store)) en (suc n) 1 (drop 8 store) = packets_are store en h ∙ ap (λ k. packets_from (head_of (length store)) en k 1 (drop 8 store)) count in
-    subst (λ (ss : List Segment). HoldsStore (before ++ (ss ++ after)) (place_after before) (length (flat_map segment_bytes ss)) store) (sym same) (run_holds store en n before after h le count no_before no_after free)
+    let same : packets_of store en ≡ packets_from (head_of (length store)) en (suc n) 1 (drop 8 store) =
+    packets_are store en h ∙ ap (λ k. packets_from (head_of (length store)) en k 1 (drop 8 store)) count in
+    subst
+    (λ (ss : List Segment). HoldsStore (before ++ (ss ++ after)) (place_after before) (length (flat_map segment_bytes ss)) store)
+    (sym same) (run_holds store en n before after h le count no_before no_after free)

@@ -11,7 +11,7 @@ pub record PacketsHold (store : List ℕ) (en : ℕ) (before after : List Segmen
   pub holds : HoldsStore (before ++ (packets_of store en ++ after)) (place_after before) (length (packets_bytes store en)) store
   pub size : length (packets_bytes store en) ≡ segments_len (length store)
 
--- So it is wherever they stand among segments of which none begins a store and, behind them, none has their number.
+-- Packets hold their store wherever they stand among segments of which none begins a store and, behind them, none has their number.
 abbrev pub PacketsHoldTheStore : Type 0
 PacketsHoldTheStore = (store : List ℕ) (en : ℕ) (before after : List Segment) → IsPacketStore store → en < 2 ^ 16
     → NoneBegins before → NoneBegins after → is_taken after en ≡ false → PacketsHold store en before after

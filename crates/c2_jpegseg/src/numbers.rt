@@ -10,7 +10,7 @@ ghost use Rattle.c2_spec.specs.Jpeg.Places.{CanSkip, HasNumber};
 ghost use Rattle.c2_jpegseg.specs.Numbers.{Notes};
 ghost use Rattle.c2_jpegseg.specs.Refusals.{IsSegmentsOr, IsSegmentsRefusalOr, TellsFault};
 ghost use Rattle.c2_jpegseg_segments.specs.Beginnings.{IsStart};
-ghost use Rattle.c2_jpegseg_segments.specs.Causes.{IsCaused};
+ghost use Rattle.c2_jpegseg_segments.specs.Causes.{IsJpegCaused};
 ghost use Rattle.c2_jpegseg_segments.specs.Passing.{HasMarks};
 ghost use Rattle.c2_jpegseg_segments.specs.Segments.{longest_payload};
 ghost use Rattle.c2_jpegseg_segments.specs.Windows.{Shows};
@@ -64,7 +64,7 @@ fn marked<S: Source>(
     requires shows { Shows (S.len source.old) (S.known source.old) window.old }
     ensures stays { StaysSource S.len S.known S.faults source.old source.new }
     ensures count { OnOk result (S.faults source.new ≡ S.faults source.old) }
-    ensures cause { IfErr result (IsCaused (S.faults source.old) (S.faults source.new)) }
+    ensures cause { IfErr result (IsJpegCaused (S.faults source.old) (S.faults source.new)) }
     ensures sized { IfOk result (λ marks. length marks ≡ MARKS_LEN) }
     ensures error { IfErr result (IsSegmentsRefusalOr size) }
     ensures marks { IfOk result (λ marks. ForSome (S.known source.old) (λ file.

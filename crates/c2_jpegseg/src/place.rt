@@ -8,7 +8,7 @@ ghost use Rattle.c2_spec.specs.PutIn.{taken_out};
 ghost use Rattle.c2_spec.specs.Jpeg.Segments.{Segment};
 ghost use Rattle.c2_spec.specs.Jpeg.Places.{CanSkip, IsInsertPlace};
 ghost use Rattle.c2_jpegseg_segments.specs.Beginnings.{IsStart};
-ghost use Rattle.c2_jpegseg_segments.specs.Causes.{IsCaused};
+ghost use Rattle.c2_jpegseg_segments.specs.Causes.{IsJpegCaused};
 ghost use Rattle.c2_jpegseg_segments.specs.Fronts.{HasFront};
 ghost use Rattle.c2_jpegseg.specs.Peeks.{Peeks};
 ghost use Rattle.c2_jpegseg.specs.Refusals.{IsSegmentsOr, IsSegmentsRefusal, TellsFault};
@@ -30,7 +30,7 @@ fn front_of<S: Source>(
     requires shows { Peeks (S.len source.old) (S.known source.old) peek.old }
     ensures stays { StaysSource S.len S.known S.faults source.old source.new }
     ensures count { OnOk result (S.faults source.new ≡ S.faults source.old) }
-    ensures cause { IfErr result (IsCaused (S.faults source.old) (S.faults source.new)) }
+    ensures cause { IfErr result (IsJpegCaused (S.faults source.old) (S.faults source.new)) }
     ensures error { IfErr result (IsSegmentsRefusal size) }
     ensures front { IfOk result (λ front. ForSome (S.known source.old) (λ file.
         HasFront file skip front)) }

@@ -2,7 +2,7 @@
 ghost use Rattle.std.specs.Prelude.{◌≡◌, OnOk, IfOk, IfErr, IfSome};
 ghost use Rattle.std.specs.Option.{ForSome};
 ghost use Rattle.c2_base.specs.Source.{StaysSource};
-ghost use Rattle.c2_spec.specs.Located.{Located, said, HasReason};
+ghost use Rattle.c2_spec.specs.Located.{Located, as_located, HasReason};
 ghost use Rattle.c2_spec.specs.Jpeg.Store.{IsLocated, IsJpegRefusal};
 ghost use Rattle.c2_jpegseg.specs.Founds.{IsFoundIn};
 
@@ -22,9 +22,10 @@ use std::alloc::Global;
 /// - `ReadFault`: the source failed; `NoMemory`: out of memory.
 pub fn locate<S: Source>(alloc: Global, source: &mut S) -> Result<Option<Found>, MediaError>
     // Where the source's bytes are known: what is returned holds, and what holds is returned.
-    ensures found { ForSome (S.known source.old) (λ file. IfSome (said result) (IsLocated file)) }
+    ensures found { ForSome (S.known source.old)
+        (λ file. IfSome (as_located result) (IsLocated file)) }
     ensures only { ForSome (S.known source.old) (λ file.
-        (what : Located) → IsLocated file what → IfSome (said result) (λ s. s ≡ what)) }
+        (what : Located) → IsLocated file what → IfSome (as_located result) (λ s. s ≡ what)) }
 
     // These hold of every source, also of one whose bytes aren't known.
     ensures inside { IfOk result (IsFoundIn (S.len source.old)) }

@@ -10,12 +10,14 @@ use Rattle.c2_spec.specs.Jpeg.Segments.{Segment, HasSegments, place_after, segme
 use Rattle.c2_spec.specs.Jpeg.Places.{IsOfSegments, SegmentsFault, too_large, not_media, at_marker}
 use Rattle.c2_jpegseg_segments.specs.Walks.{Walks}
 use Rattle.c2_jpegseg_segments.proofs.EachFile.{Bytes, Front, stops, breaks, goes, front_of, shorter}
-use Rattle.c2_jpegseg_segments.proofs.SegmentLists.{each-back, begins-push}
+use Rattle.c2_jpegseg_segments.proofs.SegmentLists.{begins-push}
 use Rattle.c2_jpegseg_segments.proofs.Starts.{too_short, begun_is}
+use Rattle.c2_lemmas.proofs.Each.{each_back}
 
 -- the file is such a list, or a test fails
 abbrev Ended : List ℕ → Type 0
-Ended file = ((segments : List Segment) × IsOfSegments file segments) ⊎ ((fault : MediaError) × SegmentsFault file fault)
+Ended file =
+    ((segments : List Segment) × IsOfSegments file segments) ⊎ ((fault : MediaError) × SegmentsFault file fault)
 
 -- some segments of the file, and the bytes after them
 record Reached (file : List ℕ) (segments : List Segment) (rest : List ℕ) : Type 0 where
@@ -34,7 +36,7 @@ next file segments rest w onwards = go (front_of (place_after segments) rest w.b
     go (breaks e fault) = inr (e, at_marker segments rest e w.fits w.begins fault)
     go (goes s more legal shape) = onwards (segments ++ s ∷ []) more (shorter s rest more shape) (record {
       fits = w.fits;
-      bytes = each-back (λ b. b < 256) (segment_bytes s) more (subst Bytes shape w.bytes);
+      bytes = each_back (λ b. b < 256) (segment_bytes s) more (subst Bytes shape w.bytes);
       begins = begins-push file segments s rest more w.begins legal shape;
     })
 
@@ -42,7 +44,8 @@ next file segments rest w onwards = go (front_of (place_after segments) rest w.b
 walk : (n : ℕ) (file : List ℕ) (segments : List Segment) (rest : List ℕ) → length rest < n → Reached file segments rest
     → Ended file
 walk zero file segments rest less w = absurd (omega arith)
-walk (suc n) file segments rest less w = next file segments rest w (λ further more shorter onward. walk n file further more (omega arith) onward)
+walk (suc n) file segments rest less w =
+    next file segments rest w (λ further more shorter onward. walk n file further more (omega arith) onward)
 
 -- the first two bytes
 begun : (file : List ℕ) → Bytes file → length file < FILE_LEN_LIMIT → 2 ≤ length file → Ended file
@@ -53,7 +56,8 @@ begun file bytes fits two = go (eqb (get_or file 0 0) 255 && eqb (get_or file 1 
         let w : Walks file 2 None = begun_is file (get_or file 0 0) (get_or file 1 0) true two refl refl is in
         walk (length (drop 2 file) + 1) file w.segments (drop 2 file) (omega arith) (record {
           fits = fits;
-          bytes = each-back (λ b. b < 256) (take 2 file) (drop 2 file) (subst Bytes (sym (take-append-drop 2 file)) bytes);
+          bytes =
+              each_back (λ b. b < 256) (take 2 file) (drop 2 file) (subst Bytes (sym (take-append-drop 2 file)) bytes);
           begins = w.begins;
         })
     go false is = inr (_, not_media fits (begun_is file (get_or file 0 0) (get_or file 1 0) false two refl refl is))

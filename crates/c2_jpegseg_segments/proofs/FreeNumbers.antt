@@ -11,7 +11,9 @@ free_from segments zero at e least h = (None, λ n from to. h n from (omega arit
 free_from segments (suc count) at e least h = by (is_taken segments at) refl (λ k. free_from segments count (at + 1) (omega arith) (omega arith) k)
   where
     more : is_taken segments at ≡ true → (n : ℕ) → LEAST_NUMBER ≤ n → n < at + 1 → is_taken segments n ≡ true
-    more t n from to = below_more (λ (m : ℕ). LEAST_NUMBER ≤ m → is_taken segments m ≡ true) at (λ m lt le. h m le lt) (λ le. t) n to from
+    more t n from to =
+        below_more (λ (m : ℕ). LEAST_NUMBER ≤ m → is_taken segments m ≡ true) at (λ m lt le. h m le lt) (λ le. t) n to
+        from
 
     by : (b : Bool) → is_taken segments at ≡ b
         → (((n : ℕ) → LEAST_NUMBER ≤ n → n < at + 1 → is_taken segments n ≡ true) → (o : Option ℕ) × IsNumberOf segments o)
@@ -21,4 +23,6 @@ free_from segments (suc count) at e least h = by (is_taken segments at) refl (λ
 
 -- one number is free, or none
 pub some_number : (segments : List Segment) → (o : Option ℕ) × IsNumberOf segments o
-some_number segments = free_from segments (2 ^ 16 - LEAST_NUMBER) LEAST_NUMBER (omega arith) (omega arith) (λ n from to. absurd (omega arith))
+some_number segments =
+    free_from segments (2 ^ 16 - LEAST_NUMBER) LEAST_NUMBER (omega arith) (omega arith)
+    (λ n from to. absurd (omega arith))

@@ -15,19 +15,23 @@ use Rattle.c2_jpegseg_segments.specs.Passing.{is_inside, kept_with, kept_from, k
 use Rattle.c2_jpegseg_segments.specs.Segments.{IsExtent, segment_of}
 use Rattle.c2_jpegseg_segments.specs.declared.marker.Extent.{Extent}
 use Rattle.c2_jpegseg_segments.proofs.Steps.{end-place}
-use Rattle.c2_jpegseg_segments.proofs.SegmentLists.{each-append, each-front, each-back, place-append, begins-push}
+use Rattle.c2_jpegseg_segments.proofs.SegmentLists.{place-append, begins-push}
 use Rattle.c2_jpegseg_segments.proofs.OneList.{one_list}
+use Rattle.c2_lemmas.proofs.Each.{each_append, each_back, each_front}
 
 -- a file whose segments were walked to their end is a list of segments, whatever was passed over
 pub walked_segments : (file : List ℕ) (skip : Range) (State : List Segment → Type 0) → length file < FILE_LEN_LIMIT
     → HasPassed file skip State → (segments : List Segment) × IsOfSegments file segments
-walked_segments file skip State small h = (h.passes.segments, record { fits = small; rest = drop h.at file; begins = h.passes.begins; ends = h.ends })
+walked_segments file skip State small h =
+    (h.passes.segments, record { fits = small; rest = drop h.at file; begins = h.passes.begins; ends = h.ends })
 
 -- a segment has bytes
 pub some_bytes : (s : Segment) → 0 < length (segment_bytes s)
 some_bytes s =
-    let parts : length (segment_bytes s) ≡ length (marker_bytes s.fill s.marker) + length (after_marker s) = length-append (marker_bytes s.fill s.marker) (after_marker s) in
-    let one : length (marker_bytes s.fill s.marker) ≡ length (replicate (s.fill + 1) 255) + 1 = length-append (replicate (s.fill + 1) 255) (s.marker ∷ []) in
+    let parts : length (segment_bytes s) ≡ length (marker_bytes s.fill s.marker) + length (after_marker s) =
+    length-append (marker_bytes s.fill s.marker) (after_marker s) in
+    let one : length (marker_bytes s.fill s.marker) ≡ length (replicate (s.fill + 1) 255) + 1 =
+    length-append (replicate (s.fill + 1) 255) (s.marker ∷ []) in
     omega (arith, parts, one)
 
 -- how many bytes of segments there are after one
@@ -41,8 +45,10 @@ pub kept_from-append : (skip : Range) (at : ℕ) (xs ys : List Segment)
 kept_from-append skip at [] ys = let e : at + 0 ≡ at = omega arith in ap (λ n. kept_from skip n ys) (sym e)
 kept_from-append skip at (x ∷ xs) ys =
     let next : ℕ = at + length (segment_bytes x) in
-    let there : next + length (flat_map segment_bytes xs) ≡ at + length (flat_map segment_bytes (x ∷ xs)) = omega (arith, one_more x xs) in
-    step (is_inside skip at next) (kept_from skip next (xs ++ ys)) (kept_from skip next xs) (kept_from skip (at + length (flat_map segment_bytes (x ∷ xs))) ys)
+    let there : next + length (flat_map segment_bytes xs) ≡ at + length (flat_map segment_bytes (x ∷ xs)) =
+    omega (arith, one_more x xs) in
+    step (is_inside skip at next) (kept_from skip next (xs ++ ys)) (kept_from skip next xs)
+    (kept_from skip (at + length (flat_map segment_bytes (x ∷ xs))) ys)
     (kept_from-append skip next xs ys ∙ ap (λ n. kept_from skip next xs ++ kept_from skip n ys) there)
   where
     step : (b : Bool) (us zs ws : List Segment) → us ≡ zs ++ ws → kept_with b x us ≡ kept_with b x zs ++ ws
@@ -78,8 +84,11 @@ pub inside_passed : (skip : Range) (at : ℕ) (ss : List Segment) → skip.start
 inside_passed skip at [] from to = refl
 inside_passed skip at (s ∷ ss) from to =
     let low : leb skip.start at ≡ true = le-leb skip.start at from in
-    let high : leb (at + length (segment_bytes s) - skip.start) skip.length ≡ true = le-leb _ _ (omega (arith, from, to, one_more s ss)) in
-    ap (λ b. kept_with (b && leb (at + length (segment_bytes s) - skip.start) skip.length) s (kept_from skip (at + length (segment_bytes s)) ss)) low
+    let high : leb (at + length (segment_bytes s) - skip.start) skip.length ≡ true =
+    le-leb _ _ (omega (arith, from, to, one_more s ss)) in
+    ap
+    (λ b. kept_with (b && leb (at + length (segment_bytes s) - skip.start) skip.length) s (kept_from skip (at + length (segment_bytes s)) ss))
+    low
     ∙ ap (λ b. kept_with b s (kept_from skip (at + length (segment_bytes s)) ss)) high
     ∙ inside_passed skip (at + length (segment_bytes s)) ss (omega (arith, from)) (omega (arith, to, one_more s ss))
 
@@ -111,20 +120,27 @@ without_middle file before run after rest start len h from for =
     let n : List ℕ = flat_map segment_bytes run in
     let r : List ℕ = flat_map segment_bytes after ++ rest in
     let is : file ≡ f ++ (n ++ r) =
-    h.bytes ∙ ap (λ (x : List ℕ). start_of_image ++ x ++ rest) (flat_map-append segment_bytes before (run ++ after) ∙ ap (λ (x : List ℕ). flat_map segment_bytes before ++ x) (flat_map-append segment_bytes run after))
-    ∙ ap (λ (x : List ℕ). x ++ rest) (sym (append_assoc start_of_image (flat_map segment_bytes before) (n ++ flat_map segment_bytes after)))
+    h.bytes
+    ∙ ap (λ (x : List ℕ). start_of_image ++ x ++ rest)
+    (flat_map-append segment_bytes before (run ++ after) ∙ ap (λ (x : List ℕ). flat_map segment_bytes before ++ x) (flat_map-append segment_bytes run after))
+    ∙ ap (λ (x : List ℕ). x ++ rest)
+    (sym (append_assoc start_of_image (flat_map segment_bytes before) (n ++ flat_map segment_bytes after)))
     ∙ append_assoc f (n ++ flat_map segment_bytes after) rest ∙ ap (λ (x : List ℕ). f ++ x) (append_assoc n (flat_map segment_bytes after) rest) in
     let size : length f ≡ start = omega (arith, from) in
     let both : length (f ++ n) ≡ start + len = omega (arith, length-append f n, size, for) in
     let front : take start file ≡ f = ap (take start) is ∙ take_at f (n ++ r) start size in
-    let back : drop (start + len) file ≡ r = ap (drop (start + len)) (is ∙ sym (append_assoc f n r)) ∙ drop_at (f ++ n) r (start + len) both in
+    let back : drop (start + len) file ≡ r =
+    ap (drop (start + len)) (is ∙ sym (append_assoc f n r)) ∙ drop_at (f ++ n) r (start + len) both in
     let whole : start_of_image ++ flat_map segment_bytes (before ++ after) ++ rest ≡ f ++ r =
     ap (λ (x : List ℕ). start_of_image ++ x ++ rest) (flat_map-append segment_bytes before after)
-    ∙ ap (λ (x : List ℕ). x ++ rest) (sym (append_assoc start_of_image (flat_map segment_bytes before) (flat_map segment_bytes after)))
+    ∙ ap (λ (x : List ℕ). x ++ rest)
+    (sym (append_assoc start_of_image (flat_map segment_bytes before) (flat_map segment_bytes after)))
     ∙ append_assoc f (flat_map segment_bytes after) rest in
     record {
       bytes = ap (λ (x : List ℕ). x ++ drop (start + len) file) front ∙ ap (λ (x : List ℕ). f ++ x) back ∙ sym whole;
-      each = each-append IsSegment before after (each-front IsSegment before (run ++ after) h.each) (each-back IsSegment run after (each-back IsSegment before (run ++ after) h.each));
+      each =
+          each_append IsSegment before after (each_front IsSegment before (run ++ after) h.each)
+          (each_back IsSegment run after (each_back IsSegment before (run ++ after) h.each));
     }
 
 -- the file without a range that may be passed over is the segments that are kept
@@ -134,11 +150,14 @@ pub kept_is : (file : List ℕ) (skip : Range) (segments : List Segment) (rest :
 kept_is file skip segments rest small has ends can = record { fits = fits; rest = rest; begins = begins can; ends = ends }
   where
     fits : length (taken_out skip.start skip.length file) < FILE_LEN_LIMIT
-    fits = omega (arith, small, length-append (take skip.start file) (drop (skip.start + skip.length) file), length-take skip.start file, length-drop (skip.start + skip.length) file)
+    fits =
+        omega
+        (arith, small, length-append (take skip.start file) (drop (skip.start + skip.length) file), length-take skip.start file, length-drop (skip.start + skip.length) file)
 
     begins : CanSkip file skip → HasSegments (taken_out skip.start skip.length file) (kept skip segments) rest
     begins (inl none) =
-        subst (λ (ss : List Segment). HasSegments (taken_out skip.start skip.length file) ss rest) (sym (none_inside skip 2 segments none))
+        subst (λ (ss : List Segment). HasSegments (taken_out skip.start skip.length file) ss rest)
+        (sym (none_inside skip 2 segments none))
         (subst (λ (f : List ℕ). HasSegments f segments rest) (sym (taken_out-none skip.start skip.length file none)) has)
     begins (inr (store, h)) =
         let same = one_list file segments h.segments rest h.rest has h.begins ends h.ends in
@@ -151,8 +170,10 @@ kept_is file skip segments rest small has ends can = record { fits = fits; rest 
         let there : at ≡ skip.start = sym held.from in
         let long : length (flat_map segment_bytes run) ≡ skip.length = sym held.for in
         let first : kept_from skip 2 before ≡ before = outside_kept skip 2 before (inl (omega (arith, there))) in
-        let second : kept_from skip at run ≡ [] = inside_passed skip at run (omega (arith, there)) (omega (arith, there, long)) in
-        let third : kept_from skip (at + length (flat_map segment_bytes run)) after ≡ after = outside_kept skip (at + length (flat_map segment_bytes run)) after (inr (omega (arith, there, long))) in
+        let second : kept_from skip at run ≡ [] =
+        inside_passed skip at run (omega (arith, there)) (omega (arith, there, long)) in
+        let third : kept_from skip (at + length (flat_map segment_bytes run)) after ≡ after =
+        outside_kept skip (at + length (flat_map segment_bytes run)) after (inr (omega (arith, there, long))) in
         let whole : kept skip segments ≡ before ++ after =
         ap (kept skip) parts ∙ kept_from-append skip 2 before (run ++ after)
         ∙ ap (λ (ts : List Segment). ts ++ kept_from skip at (run ++ after)) first
@@ -181,12 +202,15 @@ pub passes-next : (file : List ℕ) (skip : Range) (at : ℕ) (State New : List 
 passes-next file skip at State New e w x on =
     let s : Segment = segment_of x.fill file e in
     let end : e.end ≡ place_after (w.segments ++ s ∷ []) = end-place file at e w.segments w.place x in
-    let more : place_after (w.segments ++ s ∷ []) ≡ place_after w.segments + length (flat_map segment_bytes (s ∷ [])) = place-append w.segments (s ∷ []) in
-    let one : length (flat_map segment_bytes (s ∷ [])) ≡ length (segment_bytes s) = ap length (append-nil (segment_bytes s)) in
+    let more : place_after (w.segments ++ s ∷ []) ≡ place_after w.segments + length (flat_map segment_bytes (s ∷ [])) =
+    place-append w.segments (s ∷ []) in
+    let one : length (flat_map segment_bytes (s ∷ [])) ≡ length (segment_bytes s) =
+    ap length (append-nil (segment_bytes s)) in
     let to : at + length (segment_bytes s) ≡ e.end = omega (arith, end, more, one, w.place) in
     let from : 2 + length (flat_map segment_bytes w.segments) ≡ at = sym w.place in
     let list : kept skip (w.segments ++ s ∷ []) ≡ kept skip w.segments ++ kept_with (is_inside skip at e.end) s [] =
-    kept_from-append skip 2 w.segments (s ∷ []) ∙ ap (λ n. kept skip w.segments ++ kept_with (is_inside skip n (n + length (segment_bytes s))) s []) from
+    kept_from-append skip 2 w.segments (s ∷ [])
+    ∙ ap (λ n. kept skip w.segments ++ kept_with (is_inside skip n (n + length (segment_bytes s))) s []) from
     ∙ ap (λ n. kept skip w.segments ++ kept_with (is_inside skip at n) s []) to in
     record {
       segments = w.segments ++ s ∷ [];
@@ -199,7 +223,8 @@ passes-next file skip at State New e w x on =
 -- the walk is refused
 pub passes-refuse : (file : List ℕ) (skip : Range) (at : ℕ) (State : List Segment → Type 0) (e : MediaError)
     → length file < FILE_LEN_LIMIT → Passes file skip at State → MarkerFault at (drop at file) e → SegmentsFault file e
-passes-refuse file skip at State e small w fault = at_marker w.segments (drop at file) e small w.begins (subst (λ p. MarkerFault p (drop at file) e) w.place fault)
+passes-refuse file skip at State e small w fault =
+    at_marker w.segments (drop at file) e small w.begins (subst (λ p. MarkerFault p (drop at file) e) w.place fault)
 
 -- one more segment that is passed over
 pub kept-less : (State : List Segment → Type 0) (passed : Bool) (ss : List Segment) (s : Segment)

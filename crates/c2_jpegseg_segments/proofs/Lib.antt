@@ -1,20 +1,21 @@
-pub mod Outside
+pub mod EachFile
+pub mod EachList
+mod FreeNumbers
+pub mod Fronts
+pub mod Kept
 pub mod Markers
-pub mod PacketLemmas
-pub mod SegmentLists
-pub mod PacketRuns
-pub mod Steps
-pub mod Outcomes
-pub mod Starts
-pub mod Reading
+pub mod NumberMarks
+pub mod OneList
 pub mod OneStore
+pub mod Outcomes
+pub mod Outside
+pub mod PacketLemmas
+pub mod PacketRuns
+pub mod Reading
+pub mod SegmentLists
+pub mod Starts
+pub mod Steps
+pub mod StoreBytes
+pub mod TheLaws
 pub mod Unique
 pub mod WindowLemmas
-pub mod EachFile
-pub mod StoreBytes
-pub mod OneList
-pub mod Kept
-pub mod NumberMarks
-pub mod Fronts
-mod FreeNumbers
-pub mod EachList

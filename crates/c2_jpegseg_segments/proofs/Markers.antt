@@ -1,5 +1,5 @@
 -- Lemmas on fill bytes and markers.
-use Rattle.std.proofs.Common.{◌≡◌, ◌≢◌, ℕ, zero, suc, ◌+◌, ◌-◌, ◌*◌, ◌<◌, ◌≤◌, ◌⊎◌, ⊎_elim, Bool, ◌&&◌, not, true, false, cond, List, [], ◌∷◌, ◌++◌, length, get_or, take, drop, replicate, refl, sym, ap, ◌∙◌, subst, append_assoc, arith, lit<}
+use Rattle.std.proofs.Common.{◌≡◌, ◌≢◌, ℕ, zero, suc, ◌+◌, ◌-◌, ◌*◌, ◌<◌, ◌≤◌, ◌⊎◌, ⊎_elim, true, false, cond, List, [], ◌∷◌, ◌++◌, length, get_or, take, drop, replicate, refl, sym, ap, ◌∙◌, subst, append_assoc, arith, lit<}
 use Rattle.std.proofs.lemmas.List.{drop_more, drop_all, replicate_more, length-take-le, take-append-drop, drop-drop, length-drop, append-nil}
 use Rattle.std.proofs.lemmas.Nat.{be_bytes_2}
 use Rattle.std.proofs.lemmas.Bool.{cases_lt}
@@ -10,8 +10,9 @@ use Rattle.c2_spec.specs.Jpeg.Segments.{Segment, EndsSegments, MarkerFault, noth
 use Rattle.c2_jpegseg_segments.proofs.Outside.{or_outside-map}
 use Rattle.c2_jpegseg_segments.specs.declared.marker.Extent.{Extent}
 use Rattle.c2_jpegseg_segments.specs.declared.marker.Marker.{Marker}
-use Rattle.c2_jpegseg_segments.specs.Causes.{OrOutside}
+use Rattle.c2_jpegseg_segments.specs.Causes.{OrJpegFault}
 use Rattle.c2_jpegseg_segments.specs.Segments.{IsExtent, IsMarkerAt, IsSized, SizedFault, length_at}
+use Rattle.c2_lemmas.proofs.Bools.{and_not_true}
 
 -- one more fill byte
 pub fill_more : (file : List ℕ) (at q : ℕ) → at ≤ q → q < length file → get_or file q 0 ≡ 255
@@ -46,19 +47,24 @@ two_bytes a b n ha hb e = be_bytes_2 (a ∷ b ∷ []) n refl (two_places a b ha 
 
 -- the bytes of a segment whose marker stands alone, and of one with a length
 pub spelled_alone : (s : Segment) → is_alone s.marker ≡ true → segment_bytes s ≡ marker_bytes s.fill s.marker
-spelled_alone s alone = ap (λ b. marker_bytes s.fill s.marker ++ cond b [] (to_be_bytes w16 (length s.payload + 2) ++ s.payload)) alone ∙ append-nil (marker_bytes s.fill s.marker)
+spelled_alone s alone =
+    ap (λ b. marker_bytes s.fill s.marker ++ cond b [] (to_be_bytes w16 (length s.payload + 2) ++ s.payload)) alone
+    ∙ append-nil (marker_bytes s.fill s.marker)
 
 -- and of one whose marker has a length
 pub spelled_sized : (s : Segment) → is_alone s.marker ≡ false
     → segment_bytes s ≡ marker_bytes s.fill s.marker ++ (to_be_bytes w16 (length s.payload + 2) ++ s.payload)
-spelled_sized s sized = ap (λ b. marker_bytes s.fill s.marker ++ cond b [] (to_be_bytes w16 (length s.payload + 2) ++ s.payload)) sized
+spelled_sized s sized =
+    ap (λ b. marker_bytes s.fill s.marker ++ cond b [] (to_be_bytes w16 (length s.payload + 2) ++ s.payload)) sized
 
 -- a marker that stands alone is a segment
 pub alone_extent : (file : List ℕ) (at : ℕ) (m : Marker) → at < m.place → m.place < length file → IsMarkerAt file at m
-    → is_segment_marker m.code ≡ true → is_alone m.code ≡ true → IsExtent file at (record { marker = m.code; body = m.place + 1; end = m.place + 1 })
+    → is_segment_marker m.code ≡ true → is_alone m.code ≡ true
+    → IsExtent file at (record { marker = m.code; body = m.place + 1; end = m.place + 1 })
 alone_extent file at m lt inside is marker alone =
     let none : m.place + 1 - (m.place + 1) ≡ 0 = omega arith in
-    let nothing : take (m.place + 1 - (m.place + 1)) (drop (m.place + 1) file) ≡ [] = ap (λ n. take n (drop (m.place + 1) file)) none in
+    let nothing : take (m.place + 1 - (m.place + 1)) (drop (m.place + 1) file) ≡ [] =
+    ap (λ n. take n (drop (m.place + 1) file)) none in
     record {
       fill = m.place - at - 1;
       later = omega arith;
@@ -77,14 +83,18 @@ length_split file q inside =
     let two : q + 1 + 1 < length file = omega arith in
     let next : q + 1 + 1 ≡ q + 2 = omega arith in
     let after : q + 1 + 1 + 1 ≡ q + 3 = omega arith in
-    drop_more file (q + 1) 0 one ∙ ap (λ (x : List ℕ). get_or file (q + 1) 0 ∷ x) (drop_more file (q + 1 + 1) 0 two ∙ ap (λ n. get_or file n 0 ∷ drop (q + 1 + 1 + 1) file) next ∙ ap (λ n. get_or file (q + 2) 0 ∷ drop n file) after)
+    drop_more file (q + 1) 0 one
+    ∙ ap (λ (x : List ℕ). get_or file (q + 1) 0 ∷ x)
+    (drop_more file (q + 1 + 1) 0 two ∙ ap (λ n. get_or file n 0 ∷ drop (q + 1 + 1 + 1) file) next ∙ ap (λ n. get_or file (q + 2) 0 ∷ drop n file) after)
 
 -- a part of a list and what follows it
 pub part_split : (file : List ℕ) (from to : ℕ) → from ≤ to → to ≤ length file
     → drop from file ≡ take (to - from) (drop from file) ++ drop to file
 part_split file from to le inside =
     let there : from + (to - from) ≡ to = omega arith in
-    sym (take-append-drop (to - from) (drop from file)) ∙ ap (λ (x : List ℕ). take (to - from) (drop from file) ++ x) (drop-drop (to - from) from file ∙ ap (λ n. drop n file) there)
+    sym (take-append-drop (to - from) (drop from file))
+    ∙ ap (λ (x : List ℕ). take (to - from) (drop from file) ++ x)
+    (drop-drop (to - from) from file ∙ ap (λ n. drop n file) there)
 
 -- the length of such a part
 pub part_length : (file : List ℕ) (from to : ℕ) → from ≤ to → to ≤ length file
@@ -104,7 +114,8 @@ sized_is file at m e lt inside is marker sized extent =
       legal = record { marker = marker; alone = λ h. cc; fits = omega (arith, size, extent.high, extent.low) };
       bytes = marker_split file at m lt inside is
           ∙ ap (λ (x : List ℕ). marker_bytes (m.place - at - 1) m.code ++ x) whole
-          ∙ sym (append_assoc (marker_bytes (m.place - at - 1) m.code) (to_be_bytes w16 (length payload + 2) ++ payload) (drop to file))
+          ∙ sym
+          (append_assoc (marker_bytes (m.place - at - 1) m.code) (to_be_bytes w16 (length payload + 2) ++ payload) (drop to file))
           ∙ ap (λ (x : List ℕ). x ++ drop to file) (sym (spelled_sized (record { fill = m.place - at - 1; marker = m.code; payload = payload }) sized));
     })
   where
@@ -119,13 +130,11 @@ sized_is file at m e lt inside is marker sized extent =
 
     whole : drop (m.place + 1) file ≡ (to_be_bytes w16 (length payload + 2) ++ payload) ++ drop to file
     whole = length_split file m.place (omega (arith, extent.least, extent.inside))
-        ∙ ap (λ (x : List ℕ). get_or file (m.place + 1) 0 ∷ get_or file (m.place + 2) 0 ∷ x) (part_split file (m.place + 3) to (omega (arith, extent.least)) extent.inside)
-        ∙ ap (λ (x : List ℕ). x ++ (payload ++ drop to file)) (sym (two_bytes (get_or file (m.place + 1) 0) (get_or file (m.place + 2) 0) (length payload + 2) extent.high extent.low size))
+        ∙ ap (λ (x : List ℕ). get_or file (m.place + 1) 0 ∷ get_or file (m.place + 2) 0 ∷ x)
+        (part_split file (m.place + 3) to (omega (arith, extent.least)) extent.inside)
+        ∙ ap (λ (x : List ℕ). x ++ (payload ++ drop to file))
+        (sym (two_bytes (get_or file (m.place + 1) 0) (get_or file (m.place + 2) 0) (length payload + 2) extent.high extent.low size))
         ∙ sym (append_assoc (to_be_bytes w16 (length payload + 2)) payload (drop to file))
-
--- a test of which one part holds and the other does not
-and_not : (a b : Bool) → a ≡ true → b ≡ false → (a && not b) ≡ true
-and_not a b p q = ap (λ x. x && not b) p ∙ ap (λ x. true && not x) q
 
 -- the number that Truncated keeps is the file's length
 pub size_of_rest : (file : List ℕ) (at n : ℕ) → at ≤ length file → n ≡ length file → at + length (drop at file) ≡ n
@@ -143,13 +152,13 @@ pub sized_fault : (file : List ℕ) (at : ℕ) (m : Marker) (e : MediaError) →
     → is_segment_marker m.code ≡ true → is_alone m.code ≡ false → SizedFault file at m.place e
     → MarkerFault at (drop at file) e
 sized_fault file at m (Truncated n) lt inside is marker sized extent =
-    truncated file at n (omega arith) extent.0 (⊎_elim (λ short. no_length (m.place - at - 1) m.code (drop (m.place + 1) file) (marker_split file at m lt inside is) (and_not _ _ marker sized) (omega (arith, length-drop (m.place + 1) file, short)))
+    truncated file at n (omega arith) extent.0 (⊎_elim (λ short. no_length (m.place - at - 1) m.code (drop (m.place + 1) file) (marker_split file at m lt inside is) (and_not_true _ _ marker sized) (omega (arith, length-drop (m.place + 1) file, short)))
     (λ cut. cut_short (m.place - at - 1) m.code (get_or file (m.place + 1) 0) (get_or file (m.place + 2) 0) (drop (m.place + 3) file)
-    (marker_split file at m lt inside is ∙ ap (λ (x : List ℕ). marker_bytes (m.place - at - 1) m.code ++ x) (length_split file m.place cut.0)) (and_not _ _ marker sized) cut.1 (omega (arith, length-drop (m.place + 3) file, cut.2))) extent.1)
+    (marker_split file at m lt inside is ∙ ap (λ (x : List ℕ). marker_bytes (m.place - at - 1) m.code ++ x) (length_split file m.place cut.0)) (and_not_true _ _ marker sized) cut.1 (omega (arith, length-drop (m.place + 3) file, cut.2))) extent.1)
 sized_fault file at m (BadSegment p) lt inside is marker sized extent =
     subst (λ k. MarkerFault at (drop at file) (BadSegment k)) (sym extent.0)
     (short_length (m.place - at - 1) m.code (get_or file (m.place + 1) 0) (get_or file (m.place + 2) 0) (drop (m.place + 3) file)
-    (marker_split file at m lt inside is ∙ ap (λ (x : List ℕ). marker_bytes (m.place - at - 1) m.code ++ x) (length_split file m.place extent.1)) (and_not _ _ marker sized) extent.2)
+    (marker_split file at m lt inside is ∙ ap (λ (x : List ℕ). marker_bytes (m.place - at - 1) m.code ++ x) (length_split file m.place extent.1)) (and_not_true _ _ marker sized) extent.2)
 sized_fault file at m _ lt inside is marker sized extent = absurd extent
 
 -- no marker at all: nothing is left, or nothing but fill
@@ -165,20 +174,26 @@ pub no_fill : (file : List ℕ) (at : ℕ) (m : Marker) → m.place ≡ at → m
     → m.code ≢ 255 → MarkerFault at (drop at file) (BadMarker at)
 no_fill file at m here lt is other =
     let code : m.code ≡ get_or file at 0 = is.code ∙ ap (λ n. get_or file n 0) here in
-    no_marker m.code (drop (at + 1) file) (drop_more file at 0 (omega arith) ∙ ap (λ c. c ∷ drop (at + 1) file) (sym code)) other
+    no_marker m.code (drop (at + 1) file)
+    (drop_more file at 0 (omega arith) ∙ ap (λ c. c ∷ drop (at + 1) file) (sym code)) other
 
 -- a marker that begins nothing is a fault
 pub bad_kind : (file : List ℕ) (at : ℕ) (m : Marker) → at < m.place → m.place < length file → IsMarkerAt file at m
     → (m.code ≡ 0) ⊎ (m.code ≡ 0xD8) → MarkerFault at (drop at file) (BadMarker at)
-bad_kind file at m lt inside is bad = bad_marker (m.place - at - 1) m.code (drop (m.place + 1) file) (marker_split file at m lt inside is) bad
+bad_kind file at m lt inside is bad =
+    bad_marker (m.place - at - 1) m.code (drop (m.place + 1) file) (marker_split file at m lt inside is) bad
 
 -- EOI and SOS end the segments
 pub end_here : (file : List ℕ) (at : ℕ) (m : Marker) → at < m.place → m.place < length file → IsMarkerAt file at m
     → (m.code ≡ 0xD9) ⊎ (m.code ≡ 0xDA) → EndsSegments (drop at file)
-end_here file at m lt inside is ends = record { fill = m.place - at - 1; marker = m.code; more = drop (m.place + 1) file; bytes = marker_split file at m lt inside is; ends = ends }
+end_here file at m lt inside is ends =
+    record
+    { fill = m.place - at - 1; marker = m.code; more = drop (m.place + 1) file; bytes = marker_split file at m lt inside is; ends = ends }
 
 -- the same of an error that may come from outside
 pub sized_error : (file : List ℕ) (at : ℕ) (m : Marker) (e : MediaError) → at < m.place → m.place < length file
     → IsMarkerAt file at m → is_segment_marker m.code ≡ true → is_alone m.code ≡ false
-    → OrOutside e (SizedFault file at m.place e) → OrOutside e (MarkerFault at (drop at file) e)
-sized_error file at m e lt inside is marker sized extent = or_outside-map e (SizedFault file at m.place e) (MarkerFault at (drop at file) e) (sized_fault file at m e lt inside is marker sized) extent
+    → OrJpegFault e (SizedFault file at m.place e) → OrJpegFault e (MarkerFault at (drop at file) e)
+sized_error file at m e lt inside is marker sized extent =
+    or_outside-map e (SizedFault file at m.place e) (MarkerFault at (drop at file) e)
+    (sized_fault file at m e lt inside is marker sized) extent

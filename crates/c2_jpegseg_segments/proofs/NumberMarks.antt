@@ -19,16 +19,7 @@ use Rattle.c2_jpegseg_segments.specs.Passing.{has_mark, kept, with_mark, Marks, 
 use Rattle.c2_jpegseg_segments.specs.declared.numbers.TheConstants.{MARKS_LEN}
 use Rattle.c2_jpegseg_segments.specs.declared.packet.Packet.{Packet}
 use Rattle.c2_jpegseg_segments.proofs.Kept.{kept_is, taken-push}
-
--- false changes nothing
-or-false : (b : Bool) → (b || false) ≡ b
-or-false true = refl
-or-false false = refl
-
--- with true it is true
-or-true : (b : Bool) → (b || true) ≡ true
-or-true true = refl
-or-true false = refl
+use Rattle.c2_lemmas.proofs.Bools.{or_false, or_true}
 
 -- two numbers that a test tells apart differ
 differ : (m n : ℕ) → eqb m n ≡ false → m ≡ n → ⊥
@@ -58,13 +49,13 @@ bit-set marks m n byte = by (eqb (m % 8) (n % 8)) refl
         let same : m ≡ n = omega (arith, byte, bit) in
         ap (λ i. eqb (bit_at (byte_with m marks) i) 1) (sym bit)
         ∙ ap (λ v. eqb v 1) (bit_at_set_same w8 (slice_index marks (m / 8)) (m % 8) small)
-        ∙ sym (ap (λ b. bit_in marks n || b) (eq-eqb m n same) ∙ or-true (bit_in marks n))
+        ∙ sym (ap (λ b. bit_in marks n || b) (eq-eqb m n same) ∙ or_true (bit_in marks n))
     by false e =
         let other : n % 8 ≢ m % 8 = λ k. differ (m % 8) (n % 8) e (sym k) in
         let apart : m ≢ n = λ k. differ (m % 8) (n % 8) e (ap (λ i. i % 8) k) in
         ap (λ v. eqb v 1) (bit_at_set_other w8 (slice_index marks (m / 8)) (m % 8) small (n % 8) other)
         ∙ ap (λ i. eqb (bit_at (slice_index marks i) (n % 8)) 1) byte
-        ∙ sym (ap (λ b. bit_in marks n || b) (ne_eqb m n apart) ∙ or-false (bit_in marks n))
+        ∙ sym (ap (λ b. bit_in marks n || b) (ne_eqb m n apart) ∙ or_false (bit_in marks n))
 
 -- so it is in the bytes with that one
 bits-set : (marks : List ℕ) (m n : ℕ) → length marks ≡ MARKS_LEN → n < 2 ^ 16
@@ -83,7 +74,7 @@ bits-set marks m n sized small = by (eqb (m / 8) (n / 8)) refl
         let other : n / 8 ≢ m / 8 = λ k. differ (m / 8) (n / 8) e (sym k) in
         let apart : m ≢ n = λ k. differ (m / 8) (n / 8) e (ap (λ i. i / 8) k) in
         ap (λ v. eqb (bit_at v (n % 8)) 1) (get_or-set_other marks (m / 8) (n / 8) (byte_with m marks) 0 other)
-        ∙ sym (ap (λ b. bit_in marks n || b) (ne_eqb m n apart) ∙ or-false (bit_in marks n))
+        ∙ sym (ap (λ b. bit_in marks n || b) (ne_eqb m n apart) ∙ or_false (bit_in marks n))
 
 -- ---- marks
 
@@ -103,7 +94,8 @@ zero-mark : (n : ℕ) → n < 2 ^ 16 → has_mark (replicate MARKS_LEN 0) n ≡ 
 unfolding has_mark
 zero-mark n small =
     let inside : n / 8 < MARKS_LEN = omega (arith, small) in
-    ap (λ v. eqb (bit_at v (n % 8)) 1) (get_or-replicate {A = ℕ} MARKS_LEN (n / 8) 0 0 inside) ∙ ap (λ v. eqb v 1) (bit_at-zero (n % 8))
+    ap (λ v. eqb (bit_at v (n % 8)) 1) (get_or-replicate {A = ℕ} MARKS_LEN (n / 8) 0 0 inside)
+    ∙ ap (λ v. eqb v 1) (bit_at-zero (n % 8))
 
 -- no packet, no mark
 pub no-marks : (marks : List ℕ) → marks ≡ replicate MARKS_LEN 0 → Marks marks []
@@ -115,7 +107,8 @@ no-marks marks is = record {
 -- the packet that a segment is marks its number
 noted-mark : (s : Segment) (marks : List ℕ) (packet : Option Packet) (n : ℕ) → length marks ≡ MARKS_LEN → n < 2 ^ 16
     → Reads s packet → has_mark (noted packet marks) n ≡ (has_mark marks n || has_number n s)
-noted-mark s marks None n sized small none = sym (ap (λ b. has_mark marks n || (b && ((packet_in s).en == n))) none ∙ or-false (has_mark marks n))
+noted-mark s marks None n sized small none =
+    sym (ap (λ b. has_mark marks n || (b && ((packet_in s).en == n))) none ∙ or_false (has_mark marks n))
 noted-mark s marks (Some p) n sized small reads = mark-set marks p.en n sized small ∙ ap (λ b. has_mark marks n || b) (sym number)
   where
     en : (packet_in s).en ≡ p.en
@@ -134,7 +127,9 @@ pub marks-push : (marks : List ℕ) (ss : List Segment) (s : Segment) (packet : 
     → Marks marks ss → Marks (noted packet marks) (ss ++ s ∷ [])
 marks-push marks ss s packet reads m = record {
   sized = noted-len packet marks ∙ m.sized;
-  same = λ n small. noted-mark s marks packet n m.sized small reads ∙ ap (λ b. b || has_number n s) (m.same n small) ∙ sym (taken-push ss s n);
+  same =
+      λ n small. noted-mark s marks packet n m.sized small reads ∙ ap (λ b. b || has_number n s) (m.same n small)
+      ∙ sym (taken-push ss s n);
 }
 
 -- the least number without a mark is free

@@ -38,8 +38,12 @@ one_list file xs ys r s bx by er es = go (compare xs ys r s bx.each by.each (inn
   where
     go : Compared xs ys r s → (xs ≡ ys) × (r ≡ s)
     go (first_on [] same shape legal) = (sym (same ∙ append-nil xs), shape)
-    go (first_on (z ∷ zs) same shape legal) = absurd (end_not_segment z r (flat_map segment_bytes zs ++ s) legal.0 er (shape ∙ append_assoc (segment_bytes z) (flat_map segment_bytes zs) s))
-    go (second_on z zs same shape legal) = absurd (end_not_segment z s (flat_map segment_bytes zs ++ r) legal.0 es (shape ∙ append_assoc (segment_bytes z) (flat_map segment_bytes zs) r))
+    go (first_on (z ∷ zs) same shape legal) =
+        absurd
+        (end_not_segment z r (flat_map segment_bytes zs ++ s) legal.0 er (shape ∙ append_assoc (segment_bytes z) (flat_map segment_bytes zs) s))
+    go (second_on z zs same shape legal) =
+        absurd
+        (end_not_segment z s (flat_map segment_bytes zs ++ r) legal.0 es (shape ∙ append_assoc (segment_bytes z) (flat_map segment_bytes zs) r))
 
 -- where the segments end, no marker or length before has a fault
 ends_not_fails : (file : List ℕ) (xs ys : List Segment) (r s : List ℕ) (e : MediaError) → HasSegments file xs r
@@ -48,15 +52,20 @@ ends_not_fails file xs ys r s e bx by er fault = go (compare xs ys r s bx.each b
   where
     go : Compared xs ys r s → ⊥
     go (first_on [] same shape legal) = end_not_fault (place_after ys) s e (subst EndsSegments shape er) fault
-    go (first_on (z ∷ zs) same shape legal) = end_not_segment z r (flat_map segment_bytes zs ++ s) legal.0 er (shape ∙ append_assoc (segment_bytes z) (flat_map segment_bytes zs) s)
-    go (second_on z zs same shape legal) = segment_not_fault (place_after ys) z s (flat_map segment_bytes zs ++ r) e legal.0 (shape ∙ append_assoc (segment_bytes z) (flat_map segment_bytes zs) r) fault
+    go (first_on (z ∷ zs) same shape legal) =
+        end_not_segment z r (flat_map segment_bytes zs ++ s) legal.0 er
+        (shape ∙ append_assoc (segment_bytes z) (flat_map segment_bytes zs) s)
+    go (second_on z zs same shape legal) =
+        segment_not_fault (place_after ys) z s (flat_map segment_bytes zs ++ r) e legal.0
+        (shape ∙ append_assoc (segment_bytes z) (flat_map segment_bytes zs) r) fault
 
 -- a file of segments has no first test that fails
 pub no_segments_fault : (file : List ℕ) (segments : List Segment) (e : MediaError) → IsOfSegments file segments
     → SegmentsFault file e → ⊥
 no_segments_fault file segments _ h (too_large a) = absurd (omega (arith, h.fits))
 no_segments_fault file segments _ h (not_media _ a) = a (begins_media file segments h.rest h.begins)
-no_segments_fault file segments e h (at_marker before rest _ _ begins fault) = ends_not_fails file segments before h.rest rest e h.begins begins h.ends fault
+no_segments_fault file segments e h (at_marker before rest _ _ begins fault) =
+    ends_not_fails file segments before h.rest rest e h.begins begins h.ends fault
 
 -- two markers that fail are one
 one_marker_fault : (file : List ℕ) (xs ys : List Segment) (r s : List ℕ) (e f : MediaError) → HasSegments file xs r
@@ -66,10 +75,16 @@ one_marker_fault file xs ys r s e f bx by first second = go (compare xs ys r s b
     go : Compared xs ys r s → e ≡ f
     go (first_on [] same shape legal) =
         let list : ys ≡ xs = same ∙ append-nil xs in
-        let h : fails e ≡ fails f = sym (read-fault (place_after xs) r e first) ∙ ap (read (place_after xs)) shape ∙ ap (λ (zs : List Segment). read (place_after zs) s) (sym list) ∙ read-fault (place_after ys) s f second in
+        let h : fails e ≡ fails f =
+        sym (read-fault (place_after xs) r e first) ∙ ap (read (place_after xs)) shape
+        ∙ ap (λ (zs : List Segment). read (place_after zs) s) (sym list) ∙ read-fault (place_after ys) s f second in
         cc (h)
-    go (first_on (z ∷ zs) same shape legal) = absurd (segment_not_fault (place_after xs) z r (flat_map segment_bytes zs ++ s) e legal.0 (shape ∙ append_assoc (segment_bytes z) (flat_map segment_bytes zs) s) first)
-    go (second_on z zs same shape legal) = absurd (segment_not_fault (place_after ys) z s (flat_map segment_bytes zs ++ r) f legal.0 (shape ∙ append_assoc (segment_bytes z) (flat_map segment_bytes zs) r) second)
+    go (first_on (z ∷ zs) same shape legal) =
+        absurd
+        (segment_not_fault (place_after xs) z r (flat_map segment_bytes zs ++ s) e legal.0 (shape ∙ append_assoc (segment_bytes z) (flat_map segment_bytes zs) s) first)
+    go (second_on z zs same shape legal) =
+        absurd
+        (segment_not_fault (place_after ys) z s (flat_map segment_bytes zs ++ r) f legal.0 (shape ∙ append_assoc (segment_bytes z) (flat_map segment_bytes zs) r) second)
 
 -- so are two first tests of a file that fail
 pub one_segments_fault : (file : List ℕ) (e f : MediaError) → SegmentsFault file e → SegmentsFault file f → e ≡ f
@@ -78,15 +93,21 @@ one_segments_fault file _ _ (too_large a) (not_media small b) = absurd (omega (a
 one_segments_fault file _ f (too_large a) (at_marker ys s _ small by second) = absurd (omega (arith, a, small))
 one_segments_fault file _ _ (not_media small a) (too_large b) = absurd (omega (arith, b, small))
 one_segments_fault file _ _ (not_media small a) (not_media other b) = refl
-one_segments_fault file _ f (not_media small a) (at_marker ys s _ other by second) = absurd (a (begins_media file ys s by))
+one_segments_fault file _ f (not_media small a) (at_marker ys s _ other by second) =
+    absurd (a (begins_media file ys s by))
 one_segments_fault file e _ (at_marker xs r _ small bx first) (too_large b) = absurd (omega (arith, b, small))
-one_segments_fault file e _ (at_marker xs r _ small bx first) (not_media other b) = absurd (b (begins_media file xs r bx))
-one_segments_fault file e f (at_marker xs r _ small bx first) (at_marker ys s _ other by second) = one_marker_fault file xs ys r s e f bx by first second
+one_segments_fault file e _ (at_marker xs r _ small bx first) (not_media other b) =
+    absurd (b (begins_media file xs r bx))
+one_segments_fault file e f (at_marker xs r _ small bx first) (at_marker ys s _ other by second) =
+    one_marker_fault file xs ys r s e f bx by first second
 
 -- a file has one place for packets
 pub one_place : (file : List ℕ) (p q : ℕ) → IsInsertPlace file p → IsInsertPlace file q → p ≡ q
 one_place file p q a b =
-    a.place_is ∙ ap insert_place (one_list file a.segments b.segments a.is_of.rest b.is_of.rest a.is_of.begins b.is_of.begins a.is_of.ends b.is_of.ends).0 ∙ sym b.place_is
+    a.place_is
+    ∙ ap insert_place
+    (one_list file a.segments b.segments a.is_of.rest b.is_of.rest a.is_of.begins b.is_of.begins a.is_of.ends b.is_of.ends).0
+    ∙ sym b.place_is
 
 -- segments have one free number
 one_of_segments : (ss : List Segment) (m n : Option ℕ) → IsNumberOf ss m → IsNumberOf ss n → m ≡ n
@@ -101,5 +122,6 @@ one_of_segments ss (Some m) (Some n) a b = ⊎_elim
 -- so has a file
 pub one_number : (file : List ℕ) (m n : Option ℕ) → HasNumber file m → HasNumber file n → m ≡ n
 one_number file m n a b =
-    let same = (one_list file a.segments b.segments a.is_of.rest b.is_of.rest a.is_of.begins b.is_of.begins a.is_of.ends b.is_of.ends).0 in
+    let same =
+    (one_list file a.segments b.segments a.is_of.rest b.is_of.rest a.is_of.begins b.is_of.begins a.is_of.ends b.is_of.ends).0 in
     one_of_segments b.segments m n (subst (λ (ss : List Segment). IsNumberOf ss m) same a.number_is) b.number_is

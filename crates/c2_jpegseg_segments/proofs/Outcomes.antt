@@ -12,9 +12,9 @@ use Rattle.c2_jpegseg_segments.specs.Packets.{view, PacketOf}
 use Rattle.c2_jpegseg_segments.specs.Segments.{segment_of, IsExtent}
 use Rattle.c2_jpegseg_segments.specs.Runs.{IsStarted, IsContinued}
 use Rattle.c2_jpegseg_segments.specs.Walks.{Walks, Stands}
-use Rattle.c2_jpegseg_segments.proofs.SegmentLists.{each-push}
 use Rattle.c2_jpegseg_segments.proofs.PacketRuns.{no-packet-next, other-packet-next}
 use Rattle.c2_jpegseg_segments.proofs.Steps.{started, continued, passed, part-in, store-in, end-place, advance, refuse}
+use Rattle.c2_lemmas.proofs.Each.{each_push}
 
 -- the tests of a segment by those of its packet
 no_packet_start : (s : Segment) → is_packet s ≡ false → is_store_start s ≡ false
@@ -41,7 +41,8 @@ packet_stray en s b h e = ap (λ t. t && is_further_packet en (packet_in s)) h �
 pass_by : (file : List ℕ) (at : ℕ) (e : Extent) (w : Walks file at None) (x : IsExtent file at e)
     → is_store_start (segment_of x.fill file e) ≡ false → Walks file e.end None
 pass_by file at e w x other =
-    advance file at None None e w x (each-push (λ t. is_store_start t ≡ false) w.segments (segment_of x.fill file e) w.state other)
+    advance file at None None e w x
+    (each_push (λ t. is_store_start t ≡ false) w.segments (segment_of x.fill file e) w.state other)
 
 -- it is no packet
 begin_no_packet : (file : List ℕ) (at : ℕ) (e : Extent) (packet : Option Held) → Walks file at None → IsExtent file at e
@@ -77,8 +78,10 @@ begin_refused : (file : List ℕ) (at : ℕ) (e : Extent) (packet : Option Held)
 begin_refused file at e packet p fault w x reads some first fails =
     let h : PacketOf file e (Some p) = subst (PacketOf file e) some reads in
     let s : Segment = segment_of x.fill file e in
-    let test : first_packet_fault (place_after w.segments) (packet_in s) ≡ Some fault = ap (λ p. first_packet_fault p (packet_in s)) (sym w.place) ∙ ap (first_packet_fault at) (sym h.1) ∙ fails in
-    refuse file at None e fault w x (bad_first fault w.state (packet_start s true h.0 (ap is_first_packet (sym h.1) ∙ first)) test)
+    let test : first_packet_fault (place_after w.segments) (packet_in s) ≡ Some fault =
+    ap (λ p. first_packet_fault p (packet_in s)) (sym w.place) ∙ ap (first_packet_fault at) (sym h.1) ∙ fails in
+    refuse file at None e fault w x
+    (bad_first fault w.state (packet_start s true h.0 (ap is_first_packet (sym h.1) ∙ first)) test)
 
 -- a store waits for its next packet
 refuse_next : (file : List ℕ) (at : ℕ) (e : Extent) (r : Collected) (w : Walks file at (Some r)) (x : IsExtent file at e)
@@ -93,7 +96,8 @@ proceed_no_packet : (file : List ℕ) (at : ℕ) (e : Extent) (packet : Option H
     → Walks file at (Some r) → IsExtent file at e → PacketOf file e packet → length r.store < r.total → packet ≡ None
     → SegmentFault file (BadPacket at)
 proceed_no_packet file at e packet r w x reads short none =
-    refuse_next file at e r w x short (no-packet-next w.segments (segment_of x.fill file e) r w.state (subst (PacketOf file e) none reads))
+    refuse_next file at e r w x short
+    (no-packet-next w.segments (segment_of x.fill file e) r w.state (subst (PacketOf file e) none reads))
 
 -- it is a packet that does not go on with the store
 proceed_other : (file : List ℕ) (at : ℕ) (e : Extent) (packet : Option Held) (p : Held) (r : Collected)
@@ -158,18 +162,22 @@ pass_packet file at e packet p r w x reads whole some first other =
     let h : PacketOf file e (Some p) = subst (PacketOf file e) some reads in
     let s : Segment = segment_of x.fill file e in
     let start : is_store_start s ≡ false = packet_start s false h.0 (ap is_first_packet (sym h.1) ∙ first) in
-    let stray : is_stray r.en s ≡ false = packet_stray r.en s false h.0 (ap (is_further_packet r.en) (sym h.1) ∙ other) in
+    let stray : is_stray r.en s ≡ false =
+    packet_stray r.en s false h.0 (ap (is_further_packet r.en) (sym h.1) ∙ other) in
     advance file at (Some r) (Some r) e w x (passed w.segments s r w.state whole start stray)
 
 -- The cases, where a segment stands.
 pub begin-no_packet : (file : List ℕ) (at end : ℕ) (packet : Option Held) → Stands file at end packet None
     → packet ≡ None → Walks file end None
-begin-no_packet file at end packet s none = subst (λ n. Walks file n None) s.ends (begin_no_packet file at s.extent packet s.walks s.stands s.packet_is none)
+begin-no_packet file at end packet s none =
+    subst (λ n. Walks file n None) s.ends (begin_no_packet file at s.extent packet s.walks s.stands s.packet_is none)
 
 -- a packet that begins no store
 pub begin-other : (file : List ℕ) (at end : ℕ) (packet : Option Held) (p : Held) → Stands file at end packet None
     → packet ≡ Some p → is_first_packet (view p) ≡ false → Walks file end None
-begin-other file at end packet p s some other = subst (λ n. Walks file n None) s.ends (begin_other file at s.extent packet p s.walks s.stands s.packet_is some other)
+begin-other file at end packet p s some other =
+    subst (λ n. Walks file n None) s.ends
+    (begin_other file at s.extent packet p s.walks s.stands s.packet_is some other)
 
 -- a store begins
 pub begin-start : (file : List ℕ) (at end : ℕ) (packet : Option Held) (p : Held) (r : Collected)
@@ -177,51 +185,62 @@ pub begin-start : (file : List ℕ) (at end : ℕ) (packet : Option Held) (p : H
     → first_packet_fault at (view p) ≡ None
     → IsStarted at end (view p) r → Walks file end (Some r)
 begin-start file at end packet p r s some first passes k =
-    subst (λ n. Walks file n (Some r)) s.ends (begin_start file at s.extent packet p r s.walks s.stands s.packet_is some first passes (subst (λ n. IsStarted at n (view p) r) (sym s.ends) k))
+    subst (λ n. Walks file n (Some r)) s.ends
+    (begin_start file at s.extent packet p r s.walks s.stands s.packet_is some first passes (subst (λ n. IsStarted at n (view p) r) (sym s.ends) k))
 
 -- its first packet fails a test
 pub begin-refused : (file : List ℕ) (at end : ℕ) (packet : Option Held) (p : Held) (fault : MediaError)
     → Stands file at end packet None → packet ≡ Some p → is_first_packet (view p) ≡ true
     → first_packet_fault at (view p) ≡ Some fault → SegmentFault file fault
-begin-refused file at end packet p fault s some first fails = begin_refused file at s.extent packet p fault s.walks s.stands s.packet_is some first fails
+begin-refused file at end packet p fault s some first fails =
+    begin_refused file at s.extent packet p fault s.walks s.stands s.packet_is some first fails
 
 -- no packet where a store is open
 pub proceed-no_packet : (file : List ℕ) (at end : ℕ) (packet : Option Held) (r : Collected)
     → Stands file at end packet (Some r) → length r.store < r.total → packet ≡ None → SegmentFault file (BadPacket at)
-proceed-no_packet file at end packet r s short none = proceed_no_packet file at s.extent packet r s.walks s.stands s.packet_is short none
+proceed-no_packet file at end packet r s short none =
+    proceed_no_packet file at s.extent packet r s.walks s.stands s.packet_is short none
 
 -- a packet that does not go on with it
 pub proceed-other : (file : List ℕ) (at end : ℕ) (packet : Option Held) (p : Held) (r : Collected)
     → Stands file at end packet (Some r) → length r.store < r.total → packet ≡ Some p
     → goes_on r (view p) ≡ false → SegmentFault file (BadPacket at)
-proceed-other file at end packet p r s short some other = proceed_other file at s.extent packet p r s.walks s.stands s.packet_is short some other
+proceed-other file at end packet p r s short some other =
+    proceed_other file at s.extent packet p r s.walks s.stands s.packet_is short some other
 
 -- its next packet
 pub proceed-next : (file : List ℕ) (at end : ℕ) (packet : Option Held) (p : Held) (r new : Collected)
     → Stands file at end packet (Some r) → length r.store < r.total → packet ≡ Some p
     → goes_on r (view p) ≡ true → IsContinued end (view p) r new → Walks file end (Some new)
 proceed-next file at end packet p r new s short some next k =
-    subst (λ n. Walks file n (Some new)) s.ends (proceed_next file at s.extent packet p r new s.walks s.stands s.packet_is short some next (subst (λ n. IsContinued n (view p) r new) (sym s.ends) k))
+    subst (λ n. Walks file n (Some new)) s.ends
+    (proceed_next file at s.extent packet p r new s.walks s.stands s.packet_is short some next (subst (λ n. IsContinued n (view p) r new) (sym s.ends) k))
 
 -- no packet after a whole store
 pub pass-no_packet : (file : List ℕ) (at end : ℕ) (packet : Option Held) (r : Collected)
     → Stands file at end packet (Some r) → r.total ≤ length r.store → packet ≡ None → Walks file end (Some r)
-pass-no_packet file at end packet r s whole none = subst (λ n. Walks file n (Some r)) s.ends (pass_no_packet file at s.extent packet r s.walks s.stands s.packet_is whole none)
+pass-no_packet file at end packet r s whole none =
+    subst (λ n. Walks file n (Some r)) s.ends
+    (pass_no_packet file at s.extent packet r s.walks s.stands s.packet_is whole none)
 
 -- another store begins after it
 pub pass-second : (file : List ℕ) (at end : ℕ) (packet : Option Held) (p : Held) (r : Collected)
     → Stands file at end packet (Some r) → r.total ≤ length r.store → packet ≡ Some p → is_first_packet (view p) ≡ true
     → SegmentFault file (TwoStores at)
-pass-second file at end packet p r s whole some first = pass_second file at s.extent packet p r s.walks s.stands s.packet_is whole some first
+pass-second file at end packet p r s whole some first =
+    pass_second file at s.extent packet p r s.walks s.stands s.packet_is whole some first
 
 -- a packet of its number belongs to nothing
 pub pass-stray : (file : List ℕ) (at end : ℕ) (packet : Option Held) (p : Held) (r : Collected)
     → Stands file at end packet (Some r) → r.total ≤ length r.store → packet ≡ Some p → is_first_packet (view p) ≡ false
     → is_further_packet r.en (view p) ≡ true → SegmentFault file (BadPacket at)
-pass-stray file at end packet p r s whole some first other = pass_stray file at s.extent packet p r s.walks s.stands s.packet_is whole some first other
+pass-stray file at end packet p r s whole some first other =
+    pass_stray file at s.extent packet p r s.walks s.stands s.packet_is whole some first other
 
 -- any other packet passes
 pub pass-packet : (file : List ℕ) (at end : ℕ) (packet : Option Held) (p : Held) (r : Collected)
     → Stands file at end packet (Some r) → r.total ≤ length r.store → packet ≡ Some p → is_first_packet (view p) ≡ false
     → is_further_packet r.en (view p) ≡ false → Walks file end (Some r)
-pass-packet file at end packet p r s whole some first other = subst (λ n. Walks file n (Some r)) s.ends (pass_packet file at s.extent packet p r s.walks s.stands s.packet_is whole some first other)
+pass-packet file at end packet p r s whole some first other =
+    subst (λ n. Walks file n (Some r)) s.ends
+    (pass_packet file at s.extent packet p r s.walks s.stands s.packet_is whole some first other)

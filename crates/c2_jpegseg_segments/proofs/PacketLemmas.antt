@@ -28,8 +28,10 @@ four n = let h : 8 ≤ jpeg.packet_header_len n = header_cases (eqb n 1) (jpeg.p
 pub whole_header : (payload : List ℕ) → 8 + jpeg.packet_header_len (jpeg.payload_lbox payload) ≤ length payload
     → IsHeader (take (jpeg.packet_header_len (jpeg.payload_lbox payload)) (drop 8 payload))
 whole_header payload long =
-    let front : take 4 (take (jpeg.packet_header_len (jpeg.payload_lbox payload)) (drop 8 payload)) ≡ take 4 (drop 8 payload) = take-take 4 _ _ (four (jpeg.payload_lbox payload)) in
-    length-take-le _ _ (omega (arith, length-drop 8 payload)) ∙ sym (ap (λ (x : List ℕ). jpeg.packet_header_len (from_be_bytes w32 x)) front)
+    let front : take 4 (take (jpeg.packet_header_len (jpeg.payload_lbox payload)) (drop 8 payload)) ≡ take 4 (drop 8 payload) =
+    take-take 4 _ _ (four (jpeg.payload_lbox payload)) in
+    length-take-le _ _ (omega (arith, length-drop 8 payload))
+    ∙ sym (ap (λ (x : List ℕ). jpeg.packet_header_len (from_be_bytes w32 x)) front)
 
 -- the header is the prefix of a store that begins with it, and stays so when more comes after
 pub header_first : (header body : List ℕ) → take (length header) (header ++ body) ≡ header

@@ -1,5 +1,5 @@
 -- Runs of packets: what they begin with, how long they are, and what goes on with them.
-use Rattle.std.proofs.Common.{◌≡◌, ℕ, zero, suc, ◌+◌, ◌-◌, ◌<◌, Bool, ◌&&◌, true, false, List, [], ◌∷◌, ◌++◌, length, map, refl, sym, ap, ◌∙◌, arith, length-append}
+use Rattle.std.proofs.Common.{◌≡◌, ℕ, suc, ◌+◌, ◌-◌, ◌<◌, true, false, List, [], ◌∷◌, ◌++◌, length, map, refl, sym, ap, ◌∙◌, arith, length-append}
 use Rattle.std.proofs.lemmas.List.{map-append, same_from_push, length_push}
 use Rattle.std.proofs.lemmas.List.Concat.{flat_map-append}
 use Rattle.std.proofs.lemmas.Slice.Eq.{bytes_eq-Decides}
@@ -9,19 +9,14 @@ use Rattle.c2_spec.specs.Jpeg.Packets.{IsPacketRun, packet_in, is_packet}
 use Rattle.c2_spec.specs.Jpeg.Store.{IsNextPacket}
 use Rattle.c2_jpegseg_segments.specs.Runs.{Collected, goes_on}
 use Rattle.c2_jpegseg_segments.specs.Walks.{IsRunOf}
-use Rattle.c2_jpegseg_segments.proofs.SegmentLists.{each-front, each-back}
 use borrow.Author.Tests.{le-leb, eq-eqb, both_ways}
+use Rattle.c2_lemmas.proofs.Bools.{and_true}
+use Rattle.c2_lemmas.proofs.Each.{each_back, each_front}
+use Rattle.c2_lemmas.proofs.Numbers.{range_push}
 
 -- the bodies of packets, joined
 abbrev pub bodies : List Segment → List ℕ
 bodies run = flat_map (λ s. (packet_in s).body) run
-
--- one more number
-pub range-push : (a n : ℕ) → range_with_len a (suc n) ≡ range_with_len a n ++ (a + n) ∷ []
-range-push a zero = let e : a ≡ a + 0 = omega arith in ap (λ k. k ∷ []) e
-range-push a (suc n) =
-    let e : a + 1 + n ≡ a + suc n = omega arith in
-    ap (λ (x : List ℕ). a ∷ x) (range-push (a + 1) n ∙ ap (λ k. range_with_len (a + 1) n ++ k ∷ []) e)
 
 -- where the numbers of packets run on from a, so do those of the first of them
 numbers-front : (f : Segment → ℕ) (a : ℕ) (xs ys : List Segment)
@@ -38,17 +33,19 @@ number-last : (f : Segment → ℕ) (xs : List Segment) (y : Segment)
 number-last f xs y h =
     let count : length (xs ++ y ∷ []) ≡ suc (length xs) = omega (arith, length_push xs y) in
     let whole : map f xs ++ f y ∷ [] ≡ range_with_len 1 (length xs) ++ (1 + length xs) ∷ [] =
-    sym (map-append f xs (y ∷ [])) ∙ h ∙ ap (range_with_len 1) count ∙ range-push 1 (length xs) in
+    sym (map-append f xs (y ∷ [])) ∙ h ∙ ap (range_with_len 1) count ∙ range_push 1 (length xs) in
     omega (arith, (same_from_push (map f xs) (range_with_len 1 (length xs)) (f y) (1 + length xs) whole).1)
 
 -- the first packets of a run are a run
 pub run-front : (first : Segment) (xs ys : List Segment) (store : List ℕ) → IsPacketRun first (xs ++ ys) store
     → IsPacketRun first xs ((packet_in first).header ++ bodies (first ∷ xs))
 run-front first xs ys store r = record {
-  packets = (r.packets.0, each-front (λ s. is_packet s ≡ true) xs ys r.packets.1);
+  packets = (r.packets.0, each_front (λ s. is_packet s ≡ true) xs ys r.packets.1);
   numbers = numbers-front (λ s. (packet_in s).z) 1 (first ∷ xs) ys r.numbers;
-  same = each-front (λ s. ((packet_in s).en ≡ (packet_in first).en) × ((packet_in s).header ≡ (packet_in first).header)) xs ys r.same;
-  bodies = (r.bodies.0, each-front (λ s. 0 < length (packet_in s).body) xs ys r.bodies.1);
+  same =
+      each_front (λ s. ((packet_in s).en ≡ (packet_in first).en) × ((packet_in s).header ≡ (packet_in first).header)) xs
+      ys r.same;
+  bodies = (r.bodies.0, each_front (λ s. 0 < length (packet_in s).body) xs ys r.bodies.1);
   bytes = refl;
 }
 
@@ -56,8 +53,10 @@ run-front first xs ys store r = record {
 pub run-longer : (first : Segment) (xs ys : List Segment) (a b : List ℕ) → IsPacketRun first xs a
     → IsPacketRun first (xs ++ ys) b → length b ≡ length a + length (bodies ys)
 run-longer first xs ys a b p q =
-    let short : length a ≡ length (packet_in first).header + length (bodies (first ∷ xs)) = ap length p.bytes ∙ length-append (packet_in first).header (bodies (first ∷ xs)) in
-    let long : length b ≡ length (packet_in first).header + length (bodies ((first ∷ xs) ++ ys)) = ap length q.bytes ∙ length-append (packet_in first).header (bodies ((first ∷ xs) ++ ys)) in
+    let short : length a ≡ length (packet_in first).header + length (bodies (first ∷ xs)) =
+    ap length p.bytes ∙ length-append (packet_in first).header (bodies (first ∷ xs)) in
+    let long : length b ≡ length (packet_in first).header + length (bodies ((first ∷ xs) ++ ys)) =
+    ap length q.bytes ∙ length-append (packet_in first).header (bodies ((first ∷ xs) ++ ys)) in
     let parts : length (bodies ((first ∷ xs) ++ ys)) ≡ length (bodies (first ∷ xs)) + length (bodies ys) =
     ap length (flat_map-append (λ s. (packet_in s).body) (first ∷ xs) ys) ∙ length-append (bodies (first ∷ xs)) (bodies ys) in
     omega (arith, short, long, parts)
@@ -74,23 +73,23 @@ pub record Follows (r : Collected) (s : Segment) : Type 0 where
   pub packet : is_packet s ≡ true
   pub goes : goes_on r (packet_in s) ≡ true
 
--- a test of two parts that both hold
-and_true : (a b : Bool) → a ≡ true → b ≡ true → (a && b) ≡ true
-and_true a b p q = ap (λ t. t && b) p ∙ q
-
 -- a next packet of a run goes on with it
 pub next-follows : (segments : List Segment) (s : Segment) (r : Collected) (h : IsRunOf segments r)
     → IsNextPacket h.first h.others s → Follows r s
 unfolding goes_on
 next-follows segments s r h next =
     let run = next.is_run in
-    let same = (each-back (λ t. ((packet_in t).en ≡ (packet_in h.first).en) × ((packet_in t).header ≡ (packet_in h.first).header)) h.others (s ∷ []) run.same).0 in
-    let some : 0 < length (packet_in s).body = (each-back (λ t. 0 < length (packet_in t).body) h.others (s ∷ []) run.bodies.1).0 in
-    let number : (packet_in s).z ≡ length (h.first ∷ h.others) + 1 = number-last (λ t. (packet_in t).z) (h.first ∷ h.others) s run.numbers in
-    let longer : length next.part ≡ length r.store + length (bodies (s ∷ [])) = run-longer h.first h.others (s ∷ []) r.store next.part h.is_run run in
+    let same =
+    (each_back (λ t. ((packet_in t).en ≡ (packet_in h.first).en) × ((packet_in t).header ≡ (packet_in h.first).header)) h.others (s ∷ []) run.same).0 in
+    let some : 0 < length (packet_in s).body =
+    (each_back (λ t. 0 < length (packet_in t).body) h.others (s ∷ []) run.bodies.1).0 in
+    let number : (packet_in s).z ≡ length (h.first ∷ h.others) + 1 =
+    number-last (λ t. (packet_in t).z) (h.first ∷ h.others) s run.numbers in
+    let longer : length next.part ≡ length r.store + length (bodies (s ∷ [])) =
+    run-longer h.first h.others (s ∷ []) r.store next.part h.is_run run in
     let body : length (bodies (s ∷ [])) ≡ length (packet_in s).body + 0 = length-append (packet_in s).body [] in
     record {
-      packet = (each-back (λ t. is_packet t ≡ true) h.others (s ∷ []) run.packets.1).0;
+      packet = (each_back (λ t. is_packet t ≡ true) h.others (s ∷ []) run.packets.1).0;
       goes = and_true _ _
           (and_true _ _
           (and_true _ _

@@ -2,29 +2,9 @@
 use Rattle.std.proofs.Common.{◌≡◌, ℕ, ◌+◌, ◌⊎◌, inl, inr, List, [], ◌∷◌, ◌++◌, length, refl, sym, ap, ◌∙◌, append_assoc, arith, length-append}
 use Rattle.std.proofs.lemmas.List.{append-nil}
 use Rattle.std.proofs.lemmas.List.Concat.{flat_map-append}
-use Rattle.std.specs.List.{AllByRecursion, flat_map}
+use Rattle.std.specs.List.{flat_map}
 use Rattle.c2_spec.specs.Jpeg.Segments.{Segment, IsSegment, HasSegments, place_after, segment_bytes, start_of_image}
-
--- what holds of each of two lists holds of each of both
-pub each-append : {X : Type 0} (P : X → Type 0) (xs ys : List X) → AllByRecursion P xs → AllByRecursion P ys
-    → AllByRecursion P (xs ++ ys)
-each-append P [] ys h k = k
-each-append P (x ∷ xs) ys h k = (h.0, each-append P xs ys h.1 k)
-
--- and of one more element
-pub each-push : {X : Type 0} (P : X → Type 0) (xs : List X) (y : X) → AllByRecursion P xs → P y
-    → AllByRecursion P (xs ++ y ∷ [])
-each-push P xs y h k = each-append P xs (y ∷ []) h (k, tt)
-
--- what holds of each of both lists holds of each of the first, and of the second
-pub each-front : {X : Type 0} (P : X → Type 0) (xs ys : List X) → AllByRecursion P (xs ++ ys) → AllByRecursion P xs
-each-front P [] ys h = tt
-each-front P (x ∷ xs) ys h = (h.0, each-front P xs ys h.1)
-
--- (the same of the second)
-pub each-back : {X : Type 0} (P : X → Type 0) (xs ys : List X) → AllByRecursion P (xs ++ ys) → AllByRecursion P ys
-each-back P [] ys h = h
-each-back P (x ∷ xs) ys h = each-back P xs ys h.1
+use Rattle.c2_lemmas.proofs.Each.{each_push}
 
 -- where the rest begins after two lists of segments
 pub place-append : (xs ys : List Segment) → place_after (xs ++ ys) ≡ place_after xs + length (flat_map segment_bytes ys)
@@ -43,7 +23,7 @@ begins-push file segments s rest more b legal e = record {
       (ap (λ (x : List ℕ). flat_map segment_bytes segments ++ x) (sym (append-nil (segment_bytes s)))
       ∙ sym (flat_map-append segment_bytes segments (s ∷ []))))
       ∙ sym (append_assoc start_of_image (flat_map segment_bytes (segments ++ s ∷ [])) more);
-  each = each-push IsSegment segments s b.each legal;
+  each = each_push IsSegment segments s b.each legal;
 }
 
 -- Two ways to cut one list: one of the first parts begins with the other.

@@ -3,8 +3,8 @@ use Rattle.std.proofs.Common.{◌≡◌, ◌≢◌, ℕ, ◌<◌, ◌≤◌, Boo
 use Rattle.c2_spec.specs.Jpeg.Segments.{Segment, HasSegments, start_of_image}
 use Rattle.c2_jpegseg_segments.specs.Findings.{IsBegun}
 use Rattle.c2_jpegseg_segments.specs.Walks.{Walks}
-use Rattle.c2_jpegseg_segments.proofs.Steps.{both}
 use borrow.Author.Tests.{eqb-true, eq-eqb}
+use Rattle.c2_lemmas.proofs.Bools.{both_true}
 
 -- what the first two bytes are
 pub media_says : (file : List ℕ) → take 2 file ≡ start_of_image
@@ -38,7 +38,7 @@ too_short file short e = let two : 2 ≤ length file = (media_says file e).0 in 
 pub begun_is : (file : List ℕ) (a b : ℕ) (t : Bool) → 2 ≤ length file → a ≡ get_or file 0 0 → b ≡ get_or file 1 0
     → t ≡ (eqb a 255 && eqb b 216) → IsBegun file t
 begun_is file a b true two first second is =
-    let h = both (eqb a 255) (eqb b 216) (sym is) in
+    let h = both_true (eqb a 255) (eqb b 216) (sym is) in
     walk_starts file two (sym first ∙ eqb-true _ _ h.0) (sym second ∙ eqb-true _ _ h.1)
 begun_is file a b false two first second is = λ e.
     let says = media_says file e in

@@ -35,12 +35,16 @@ pub compare : (xs ys : List Segment) (r s : List ℕ) → AllByRecursion IsSegme
 compare [] ys r s hx hy e = first_on ys refl e hy
 compare (x ∷ xs) [] r s hx hy e = second_on x xs refl (sym e) hx
 compare (x ∷ xs) (y ∷ ys) r s hx hy e =
-    let one = same_front x y (flat_map segment_bytes xs ++ r) (flat_map segment_bytes ys ++ s) hx.0 hy.0 (sym (append_assoc (segment_bytes x) (flat_map segment_bytes xs) r) ∙ e ∙ append_assoc (segment_bytes y) (flat_map segment_bytes ys) s) in
+    let one =
+    same_front x y (flat_map segment_bytes xs ++ r) (flat_map segment_bytes ys ++ s) hx.0 hy.0
+    (sym (append_assoc (segment_bytes x) (flat_map segment_bytes xs) r) ∙ e ∙ append_assoc (segment_bytes y) (flat_map segment_bytes ys) s) in
     extend x y one.0 (compare xs ys r s hx.1 hy.1 one.1)
   where
     extend : (x y : Segment) → x ≡ y → Compared xs ys r s → Compared (x ∷ xs) (y ∷ ys) r s
-    extend x y same (first_on zs a b c) = first_on zs (ap (λ t. t ∷ ys) (sym same) ∙ ap (λ (ts : List Segment). x ∷ ts) a) b c
-    extend x y same (second_on z zs a b c) = second_on z zs (ap (λ t. t ∷ xs) same ∙ ap (λ (ts : List Segment). y ∷ ts) a) b c
+    extend x y same (first_on zs a b c) =
+        first_on zs (ap (λ t. t ∷ ys) (sym same) ∙ ap (λ (ts : List Segment). x ∷ ts) a) b c
+    extend x y same (second_on z zs a b c) =
+        second_on z zs (ap (λ t. t ∷ xs) same ∙ ap (λ (ts : List Segment). y ∷ ts) a) b c
 
 -- how a file's segments end, and with what outcome
 pub data Stops (segments : List Segment) (rest : List ℕ) : Finding → Type 0 where
@@ -55,8 +59,13 @@ store_same : (segments : List Segment) (s1 l1 s2 l2 : ℕ) (b1 b2 : List ℕ) �
 store_same segments s1 l1 s2 l2 b1 b2 g h =
     let same = held-same segments segments [] s1 l1 s2 l2 b1 b2 (sym (append-nil segments)) g h in
     let start : s1 ≡ s2 = g.from ∙ ap place_after same.before ∙ sym h.from in
-    let len : l1 ≡ l2 = g.for ∙ ap (λ f. length (flat_map segment_bytes (f ∷ g.others))) same.first ∙ ap (λ (o : List Segment). length (flat_map segment_bytes (h.first ∷ o))) same.others ∙ sym h.for in
-    let store : b1 ≡ b2 = g.is_run.bytes ∙ ap (λ f. (packet_in f).header ++ bodies (f ∷ g.others)) same.first ∙ ap (λ (o : List Segment). (packet_in h.first).header ++ bodies (h.first ∷ o)) same.others ∙ sym h.is_run.bytes in
+    let len : l1 ≡ l2 =
+    g.for ∙ ap (λ f. length (flat_map segment_bytes (f ∷ g.others))) same.first
+    ∙ ap (λ (o : List Segment). length (flat_map segment_bytes (h.first ∷ o))) same.others ∙ sym h.for in
+    let store : b1 ≡ b2 =
+    g.is_run.bytes ∙ ap (λ f. (packet_in f).header ++ bodies (f ∷ g.others)) same.first
+    ∙ ap (λ (o : List Segment). (packet_in h.first).header ++ bodies (h.first ∷ o)) same.others
+    ∙ sym h.is_run.bytes in
     ap (λ n. holding n l1 b1) start ∙ ap (λ n. holding s2 n b1) len ∙ ap (holding s2 l2) store
 
 -- after the same segments the same test fails
@@ -89,18 +98,23 @@ none_closed segments clear first others part = part-none segments first others p
 -- nor where one is held
 held_closed : (segments : List Segment) (start len : ℕ) (store : List ℕ) → HoldsStore segments start len store
     → (first : Segment) (others : List Segment) → HoldsPart segments first others → ⊥
-held_closed segments start len store held first others part = held-part segments segments [] start len store first others (sym (append-nil segments)) held part
+held_closed segments start len store held first others part =
+    held-part segments segments [] start len store first others (sym (append-nil segments)) held part
 
 -- the same segments and the same rest have one outcome
 stops_same : (segments : List Segment) (rest : List ℕ) (o p : Finding) → Stops segments rest o → Stops segments rest p
     → o ≡ p
 stops_same segments rest _ _ (fault {e = e} a) (fault {e = f} b) = ap refusing (fails_same segments rest e f a b)
-stops_same segments rest _ _ (fault {e = e} a) (none last clear) = absurd (fails_not segments rest e a last (none_closed segments clear))
-stops_same segments rest _ _ (fault {e = e} a) (found last store) = absurd (fails_not segments rest e a last (held_closed segments _ _ _ store))
-stops_same segments rest _ _ (none last clear) (fault {e = e} a) = absurd (fails_not segments rest e a last (none_closed segments clear))
+stops_same segments rest _ _ (fault {e = e} a) (none last clear) =
+    absurd (fails_not segments rest e a last (none_closed segments clear))
+stops_same segments rest _ _ (fault {e = e} a) (found last store) =
+    absurd (fails_not segments rest e a last (held_closed segments _ _ _ store))
+stops_same segments rest _ _ (none last clear) (fault {e = e} a) =
+    absurd (fails_not segments rest e a last (none_closed segments clear))
 stops_same segments rest _ _ (none last clear) (none _ _) = refl
 stops_same segments rest _ _ (none last clear) (found _ store) = absurd (held-none segments _ _ _ store clear)
-stops_same segments rest _ _ (found last store) (fault {e = e} a) = absurd (fails_not segments rest e a last (held_closed segments _ _ _ store))
+stops_same segments rest _ _ (found last store) (fault {e = e} a) =
+    absurd (fails_not segments rest e a last (held_closed segments _ _ _ store))
 stops_same segments rest _ _ (found _ store) (none _ clear) = absurd (held-none segments _ _ _ store clear)
 stops_same segments rest _ _ (found _ a) (found _ b) = store_same segments _ _ _ _ _ _ a b
 
@@ -128,7 +142,8 @@ shape_of file (refusing _) (too_large h) = large h
 shape_of file (refusing _) (not_media fits h) = other fits h
 shape_of file (refusing e) (segment _ fits h) = walked fits h.before h.rest h.begins h.passing (fault h.fails)
 shape_of file lacking h = walked h.fits h.segments h.rest h.begins (none_begins h.none) (none h.ends h.none)
-shape_of file (holding start len store) h = walked h.fits h.segments h.rest h.begins (one_held start len store h.holds) (found h.ends h.holds)
+shape_of file (holding start len store) h =
+    walked h.fits h.segments h.rest h.begins (one_held start len store h.holds) (found h.ends h.holds)
 
 -- segments that end with two outcomes end with one
 walks_same : (file : List ℕ) (xs ys : List Segment) (r s : List ℕ) (o p : Finding) → HasSegments file xs r
@@ -136,15 +151,23 @@ walks_same : (file : List ℕ) (xs ys : List Segment) (r s : List ℕ) (o p : Fi
 walks_same file xs ys r s o p bx by px py sx sy = go (compare xs ys r s bx.each by.each inner)
   where
     outer : start_of_image ++ (flat_map segment_bytes xs ++ r) ≡ start_of_image ++ (flat_map segment_bytes ys ++ s)
-    outer = sym (bx.bytes ∙ append_assoc start_of_image (flat_map segment_bytes xs) r) ∙ by.bytes ∙ append_assoc start_of_image (flat_map segment_bytes ys) s
+    outer =
+        sym (bx.bytes ∙ append_assoc start_of_image (flat_map segment_bytes xs) r) ∙ by.bytes
+        ∙ append_assoc start_of_image (flat_map segment_bytes ys) s
 
     inner : flat_map segment_bytes xs ++ r ≡ flat_map segment_bytes ys ++ s
     inner = append_cancel_left start_of_image (flat_map segment_bytes xs ++ r) (flat_map segment_bytes ys ++ s) outer
 
     go : Compared xs ys r s → o ≡ p
-    go (first_on [] same shape legal) = stops_same xs r o p sx (subst (λ (t : List ℕ). Stops xs t p) (sym shape) (subst (λ (t : List Segment). Stops t s p) (same ∙ append-nil xs) sy))
-    go (first_on (z ∷ zs) same shape legal) = absurd (stops_not xs zs z r (flat_map segment_bytes zs ++ s) o sx legal.0 (shape ∙ append_assoc (segment_bytes z) (flat_map segment_bytes zs) s) (subst HaveNoFault same py))
-    go (second_on z zs same shape legal) = absurd (stops_not ys zs z s (flat_map segment_bytes zs ++ r) p sy legal.0 (shape ∙ append_assoc (segment_bytes z) (flat_map segment_bytes zs) r) (subst HaveNoFault same px))
+    go (first_on [] same shape legal) =
+        stops_same xs r o p sx
+        (subst (λ (t : List ℕ). Stops xs t p) (sym shape) (subst (λ (t : List Segment). Stops t s p) (same ∙ append-nil xs) sy))
+    go (first_on (z ∷ zs) same shape legal) =
+        absurd
+        (stops_not xs zs z r (flat_map segment_bytes zs ++ s) o sx legal.0 (shape ∙ append_assoc (segment_bytes z) (flat_map segment_bytes zs) s) (subst HaveNoFault same py))
+    go (second_on z zs same shape legal) =
+        absurd
+        (stops_not ys zs z s (flat_map segment_bytes zs ++ r) p sy legal.0 (shape ∙ append_assoc (segment_bytes z) (flat_map segment_bytes zs) r) (subst HaveNoFault same px))
 
 -- a file with two looks has one outcome
 shape_same : (file : List ℕ) (o p : Finding) → Shape file o → Shape file p → o ≡ p

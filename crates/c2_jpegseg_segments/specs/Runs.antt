@@ -6,7 +6,7 @@ use Rattle.c2_base.specs.declared.media.MediaError.{MediaError}
 use Rattle.c2_base.specs.declared.media.MediaError.TheVariants.{BadPacket, TwoStores, StoreTooLarge, NoMemory}
 use Rattle.c2_spec.specs.Jpeg.Packets.{Packet, stated_length}
 use Rattle.c2_spec.specs.Jpeg.Store.{first_packet_fault}
-use Rattle.c2_jpegseg_segments.specs.Causes.{OrOutside}
+use Rattle.c2_jpegseg_segments.specs.Causes.{OrJpegFault}
 use Rattle.c2_jpegseg_segments.specs.declared.run.Run.{Run}
 
 -- A run as plain values: where its packets begin and end in the file, their number and header, how many there are, how long the
@@ -63,7 +63,7 @@ pub record IsContinued (end : ℕ) (next : Packet) (run new : Collected) : Type 
 
 -- the first test that this packet fails as the first of a store, where it stands at a place
 abbrev pub FailsFirst : ℕ → Packet → MediaError → Type 0
-FailsFirst at first e = OrOutside e (first_packet_fault at first ≡ Some e)
+FailsFirst at first e = OrJpegFault e (first_packet_fault at first ≡ Some e)
 
 -- the run's last packet ends at a place or before it
 abbrev pub EndsBy : ℕ → Option Run → Type 0

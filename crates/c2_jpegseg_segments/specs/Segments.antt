@@ -5,7 +5,7 @@ use Rattle.c2_base.specs.declared.media.MediaError.{MediaError}
 use Rattle.c2_base.specs.declared.media.MediaError.TheVariants.{Truncated, BadMarker, BadSegment, ReadFault}
 use Rattle.c2_spec.specs.declared.markers.TheConstants.{FILL, SOI, EOI, SOS}
 use Rattle.c2_spec.specs.Jpeg.Segments.{Segment, IsSegment, EndsSegments, MarkerFault, segment_bytes, is_segment_marker, is_alone}
-use Rattle.c2_jpegseg_segments.specs.Causes.{IsCaused, OrOutside}
+use Rattle.c2_jpegseg_segments.specs.Causes.{IsJpegCaused, OrJpegFault}
 use Rattle.c2_jpegseg_segments.specs.declared.marker.Extent.{Extent}
 use Rattle.c2_jpegseg_segments.specs.declared.marker.Kind.{Kind}
 use Rattle.c2_jpegseg_segments.specs.declared.marker.Kind.TheVariants as kind
@@ -72,7 +72,7 @@ SizedFault file at q _ = ⊥
 -- what the reader of a length returns
 abbrev pub IsSizedOr : List ℕ → ℕ → Marker → Result Extent MediaError → Type 0
 IsSizedOr file at m (Ok e) = IsSized file m e
-IsSizedOr file at m (Err e) = OrOutside e (SizedFault file at m.place e)
+IsSizedOr file at m (Err e) = OrJpegFault e (SizedFault file at m.place e)
 
 -- the segments end at the place, or this segment stands there
 abbrev pub IsNext : List ℕ → ℕ → Next → Type 0
@@ -82,7 +82,7 @@ IsNext file at (next.Segment e) = IsExtent file at e
 -- what the reader of a segment returns
 abbrev pub IsNextOr : List ℕ → ℕ → Result Next MediaError → Type 0
 IsNextOr file at (Ok n) = IsNext file at n
-IsNextOr file at (Err e) = OrOutside e (MarkerFault at (drop at file) e)
+IsNextOr file at (Err e) = OrJpegFault e (MarkerFault at (drop at file) e)
 
 -- the most bytes after a length, which counts its own two (ITU-T T.81, B.1.1.4)
 abbrev pub longest_payload : ℕ
@@ -113,7 +113,7 @@ pub record IsSegmentRead (known : Option (List ℕ)) (size before now at : ℕ) 
   -- without an error the count stays
   pub count : OnOk result (now ≡ before)
   -- an error has the cause that it says
-  pub cause : IfErr result (IsCaused before now)
+  pub cause : IfErr result (IsJpegCaused before now)
   -- what is there lies in the source
   pub inside : IfOk result (IsNextBy at size)
   -- an error is one of a marker or of its length

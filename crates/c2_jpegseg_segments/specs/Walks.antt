@@ -8,7 +8,7 @@ use Rattle.c2_spec.specs.Jpeg.Packets.{IsPacketRun, packet_in, is_store_start, i
 use Rattle.c2_spec.specs.Jpeg.Store.{NoneBegins, SegmentFault}
 use Rattle.c2_jpegseg_segments.specs.declared.marker.Extent.{Extent}
 use Rattle.c2_jpegseg_segments.specs.declared.packet.Packet.{Packet}
-use Rattle.c2_jpegseg_segments.specs.Causes.{OrOutside}
+use Rattle.c2_jpegseg_segments.specs.Causes.{OrJpegFault}
 use Rattle.c2_jpegseg_segments.specs.Packets.{PacketOf}
 use Rattle.c2_jpegseg_segments.specs.Runs.{Collected}
 use Rattle.c2_jpegseg_segments.specs.Segments.{IsExtent}
@@ -62,4 +62,4 @@ StepsTo at end packet run new = (file : List ℕ) → Stands file at end packet 
 
 -- In any such file the error is the first fault of the segments.
 abbrev pub StepFails : ℕ → ℕ → Option Packet → Option Collected → MediaError → Type 0
-StepFails at end packet run e = (file : List ℕ) → Stands file at end packet run → OrOutside e (SegmentFault file e)
+StepFails at end packet run e = (file : List ℕ) → Stands file at end packet run → OrJpegFault e (SegmentFault file e)

@@ -3,7 +3,7 @@ ghost use Rattle.std.specs.Prelude.{◌≡◌, ◌≢◌, ◌+◌, ◌<◌, ◌�
 ghost use Rattle.std.specs.Option.{ForSome};
 ghost use Rattle.c2_base.specs.Causes.{HasCause};
 ghost use Rattle.c2_base.specs.Source.{StaysSource};
-ghost use Rattle.c2_jpegseg_segments.specs.Causes.{IsCaused};
+ghost use Rattle.c2_jpegseg_segments.specs.Causes.{IsJpegCaused};
 ghost use Rattle.c2_base.specs.declared.limits.TheConstants.{FILE_LEN_LIMIT};
 ghost use Rattle.c2_spec.specs.declared.markers.TheConstants.{FILL};
 ghost use Rattle.c2_jpegseg_segments.specs.Segments.{IsKind, FindsMarker, IsSizedOr, IsExtentBy, IsNextOr, IsNextBy, IsMarkerError, IsSegmentRead};
@@ -102,7 +102,7 @@ fn sized_at<S: Source, W: Bytes>(
     requires shows { W.shows (S.len source.old) (S.known source.old) window.old }
     ensures stays { StaysSource S.len S.known S.faults source.old source.new }
     ensures count { OnOk result (S.faults source.new ≡ S.faults source.old) }
-    ensures cause { IfErr result (IsCaused (S.faults source.old) (S.faults source.new)) }
+    ensures cause { IfErr result (IsJpegCaused (S.faults source.old) (S.faults source.new)) }
     ensures shows { OnOk result (W.shows (S.len source.old) (S.known source.old) window.new) }
     ensures inside { IfOk result (IsExtentBy at size) }
     ensures error { IfErr result (IsMarkerError at size) }
@@ -141,7 +141,7 @@ fn next_at<S: Source, W: Bytes>(
     requires shows { W.shows (S.len source.old) (S.known source.old) window.old }
     ensures stays { StaysSource S.len S.known S.faults source.old source.new }
     ensures count { OnOk result (S.faults source.new ≡ S.faults source.old) }
-    ensures cause { IfErr result (IsCaused (S.faults source.old) (S.faults source.new)) }
+    ensures cause { IfErr result (IsJpegCaused (S.faults source.old) (S.faults source.new)) }
     ensures shows { OnOk result (W.shows (S.len source.old) (S.known source.old) window.new) }
     ensures inside { IfOk result (IsNextBy at size) }
     ensures error { IfErr result (IsMarkerError at size) }

@@ -1,38 +1,35 @@
 -- An answer names the one outcome of a file.
+use Rattle.c2_jpegseg_segments.proofs.TheLaws.{each_file_is_located_once}
 use Rattle.std.proofs.Common.{◌≡◌, ℕ, ◌<◌, List, length, Option, Some, None, IfSome, Result, Ok, Err, subst, ◌∙◌}
 use Rattle.c2_base.specs.Causes.{Rose}
 use Rattle.c2_base.specs.declared.limits.TheConstants.{FILE_LEN_LIMIT}
 use Rattle.c2_base.specs.declared.media.Found.{Found}
 use Rattle.c2_base.specs.declared.media.MediaError.{MediaError}
 use Rattle.c2_base.specs.declared.media.MediaError.TheVariants.{FileTooLarge, Truncated, BadMarker, BadSegment, BadPacket, TwoStores, BadBox, BadProvenanceBox, StoreTooLarge, TooManyBoxes, ReadFault, NoMemory}
-use Rattle.c2_spec.specs.Located.{Located, said}
+use Rattle.c2_spec.specs.Located.{Located, as_located}
 use Rattle.c2_spec.specs.Jpeg.Store.{IsLocated, IsJpegRefusal, FirstJpegFault, SegmentFault, segment}
 use Rattle.c2_jpegseg_survey.specs.Answers.{IsFoundOr, IsWalkedOr, IsWalkError}
-use Rattle.c2_jpegseg_segments.specs.Causes.{IsCaused}
+use Rattle.c2_jpegseg_segments.specs.Causes.{IsJpegCaused}
 use Rattle.c2_jpegseg_survey.specs.Surveys.{IsSurveyCause}
 use Rattle.c2_jpegseg_segments.proofs.Outside.{or_outside-map, refusal_is}
 
 -- what the search returns is what the file comes to
 pub said_is : (file : List ℕ) (r : Result (Option Found) MediaError) → IsFoundOr file r
-    → IfSome (said r) (IsLocated file)
+    → IfSome (as_located r) (IsLocated file)
 said_is file (Ok None) h = h
 said_is file (Ok (Some f)) h = h
 said_is file (Err e) h = refusal_is file e h
 
--- a file comes to one thing
-abbrev pub OneLocated : Type 0
-OneLocated = (file : List ℕ) (v w : Located) → IsLocated file v → IsLocated file w → v ≡ w
-
--- and what the file comes to is what the search returns
-only_one : OneLocated → (file : List ℕ) (x : Option Located) → IfSome x (IsLocated file) → (what : Located)
+-- what the file is as a JPEG is what the search returns
+only_one : (file : List ℕ) (x : Option Located) → IfSome x (IsLocated file) → (what : Located)
     → IsLocated file what → IfSome x (λ s. s ≡ what)
-only_one once file None h what k = tt
-only_one once file (Some s) h what k = once file s what h k
+only_one file None h what k = tt
+only_one file (Some s) h what k = each_file_is_located_once file s what h k
 
--- so it is of its answer
-pub only_said : OneLocated → (file : List ℕ) (r : Result (Option Found) MediaError) → IsFoundOr file r
-    → (what : Located) → IsLocated file what → IfSome (said r) (λ s. s ≡ what)
-only_said once file r h = only_one once file (said r) (said_is file r h)
+-- what the file is as a JPEG is what the answer of the search says
+pub only_said : (file : List ℕ) (r : Result (Option Found) MediaError) → IsFoundOr file r
+    → (what : Located) → IsLocated file what → IfSome (as_located r) (λ s. s ≡ what)
+only_said file r h = only_one file (as_located r) (said_is file r h)
 
 -- the walk's answer is the search's
 pub found_by_walk : (file : List ℕ) (r : Result (Option Found) MediaError) → length file < FILE_LEN_LIMIT
@@ -43,13 +40,13 @@ found_by_walk file (Err e) fits h = or_outside-map e (SegmentFault file e) (Firs
 
 -- the walk's errors are the search's
 pub cause_of : (len before mid now : ℕ) (e : MediaError) → len < FILE_LEN_LIMIT → mid ≡ before → IsWalkError len e
-    → IsCaused mid now e → IsSurveyCause len before now e
+    → IsJpegCaused mid now e → IsSurveyCause len before now e
 cause_of len before mid now (FileTooLarge n) fits same error cause = absurd error
 cause_of len before mid now ReadFault fits same error cause = subst (λ n. Rose n now) same cause
 cause_of len before mid now NoMemory fits same error cause = cause ∙ same
 cause_of len before mid now _ fits same error cause = (fits, cause ∙ same)
 
--- the walk's errors can be said of a file of this length
+-- the walk's errors can be as_located of a file of this length
 pub refusal_of : (len : ℕ) (e : MediaError) → IsWalkError len e → IsJpegRefusal len e
 refusal_of len (Truncated n) h = h
 refusal_of len (BadMarker p) h = h

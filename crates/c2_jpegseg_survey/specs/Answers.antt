@@ -6,19 +6,19 @@ use Rattle.c2_base.specs.declared.media.Found.{Found}
 use Rattle.c2_base.specs.declared.media.MediaError.{MediaError}
 use Rattle.c2_base.specs.declared.media.MediaError.TheVariants.{Truncated, BadMarker, BadSegment, BadPacket, TwoStores, StoreTooLarge, ReadFault, NoMemory}
 use Rattle.c2_spec.specs.Jpeg.Store.{EndsWithin, HasSmallStore, HasJpegStore, HasNoJpegStore, SegmentFault, FirstJpegFault}
-use Rattle.c2_jpegseg_segments.specs.Causes.{IsCaused, OrOutside}
+use Rattle.c2_jpegseg_segments.specs.Causes.{IsJpegCaused, OrJpegFault}
 
 -- what the walk over the segments returns
 abbrev pub IsWalkedOr : List ℕ → Result (Option Found) MediaError → Type 0
 IsWalkedOr file (Ok None) = HasNoJpegStore file
 IsWalkedOr file (Ok (Some f)) = HasJpegStore file f.start f.length f.store
-IsWalkedOr file (Err e) = OrOutside e (SegmentFault file e)
+IsWalkedOr file (Err e) = OrJpegFault e (SegmentFault file e)
 
 -- what the whole search returns
 abbrev pub IsFoundOr : List ℕ → Result (Option Found) MediaError → Type 0
 IsFoundOr file (Ok None) = HasNoJpegStore file
 IsFoundOr file (Ok (Some f)) = HasJpegStore file f.start f.length f.store
-IsFoundOr file (Err e) = OrOutside e (FirstJpegFault file e)
+IsFoundOr file (Err e) = OrJpegFault e (FirstJpegFault file e)
 
 -- the errors of the walk over a file of this size, where its bytes aren't known
 abbrev pub IsWalkError : ℕ → MediaError → Type 0
@@ -37,7 +37,7 @@ pub record IsWalk (known : Option (List ℕ)) (size before now : ℕ) (result : 
   -- without an error the count stays
   pub count : OnOk result (now ≡ before)
   -- an error has the cause that it says
-  pub cause : IfErr result (IsCaused before now)
+  pub cause : IfErr result (IsJpegCaused before now)
   -- the range of a store ends in the source
   pub within : IfOk result (λ found. IfSome found (EndsWithin size))
   -- a store isn't too large

@@ -3,7 +3,7 @@ ghost use Rattle.std.specs.Prelude.{◌≡◌, ℕ, ◌-◌, ◌<◌, ◌≤◌,
 ghost use Rattle.std.specs.Option.{ForSome};
 ghost use Rattle.c2_base.specs.Source.{StaysSource};
 ghost use Rattle.c2_base.specs.declared.limits.TheConstants.{FILE_LEN_LIMIT};
-ghost use Rattle.c2_spec.specs.Located.{Located, said};
+ghost use Rattle.c2_spec.specs.Located.{Located, as_located};
 ghost use Rattle.c2_spec.specs.Jpeg.Places.{CanSkip};
 ghost use Rattle.c2_spec.specs.Jpeg.Store.{IsLocated, IsJpegRefusal};
 ghost use Rattle.c2_jpegseg_survey.specs.Answers.{IsFoundOr};
@@ -14,7 +14,7 @@ use crate::keeping::Kept;
 use crate::walking::walk;
 use c2_base::limits::FILE_LEN_LIMIT;
 use c2_base::{Found, MediaError, Source};
-use c2_jpegseg_segments::{Window, each_file_is_located, is_jpeg, least_free};
+use c2_jpegseg_segments::{Window, is_jpeg, least_free};
 use std::alloc::Global;
 
 /// Where the packets of a new store go in a JPEG file, once the packets of the store that was found in it are taken out.
@@ -127,9 +127,9 @@ fn search<S: Source>(alloc: Global, source: &mut S) -> Result<Surveyed, MediaErr
 pub fn survey<S: Source>(alloc: Global, source: &mut S) -> Result<Surveyed, MediaError>
     // Where the source's bytes are known: what is returned holds, and what holds is returned.
     ensures found { ForSome (S.known source.old) (λ file.
-        IfSome (said (found_in result)) (IsLocated file)) }
+        IfSome (as_located (found_in result)) (IsLocated file)) }
     ensures only { ForSome (S.known source.old) (λ file. (what : Located) → IsLocated file what
-        → IfSome (said (found_in result)) (λ s. s ≡ what)) }
+        → IfSome (as_located (found_in result)) (λ s. s ≡ what)) }
     ensures point { IfOk result (λ s. ForSome (S.known source.old) (λ file.
         HasPacketPoint (less_found s.found file) s.point)) }
 
@@ -141,7 +141,5 @@ pub fn survey<S: Source>(alloc: Global, source: &mut S) -> Result<Surveyed, Medi
     ensures cause { IfErr result
         (IsSurveyCause (S.len source.old) (S.faults source.old) (S.faults source.new)) }
 {
-    // Only the prover needs this law.
-    each_file_is_located();
     search(alloc, source)
 }

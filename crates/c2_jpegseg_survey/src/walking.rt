@@ -5,7 +5,7 @@ ghost use Rattle.c2_base.specs.Source.{StaysSource};
 ghost use Rattle.c2_base.specs.declared.limits.TheConstants.{FILE_LEN_LIMIT};
 ghost use Rattle.c2_spec.specs.Jpeg.Store.{EndsWithin, HasSmallStore};
 ghost use Rattle.c2_jpegseg_segments.specs.Beginnings.{IsStart};
-ghost use Rattle.c2_jpegseg_segments.specs.Causes.{IsCaused};
+ghost use Rattle.c2_jpegseg_segments.specs.Causes.{IsJpegCaused};
 ghost use Rattle.c2_jpegseg_segments.specs.Walks.{Walks};
 ghost use Rattle.c2_jpegseg_segments.specs.Windows.{Shows};
 ghost use Rattle.c2_jpegseg_survey.specs.Answers.{IsWalk, IsWalkedOr, IsWalkError};
@@ -33,7 +33,7 @@ fn walked<S: Source>(
     requires none { IsKept kept.old [] }
     ensures stays { StaysSource S.len S.known S.faults source.old source.new }
     ensures count { OnOk result (S.faults source.new ≡ S.faults source.old) }
-    ensures cause { IfErr result (IsCaused (S.faults source.old) (S.faults source.new)) }
+    ensures cause { IfErr result (IsJpegCaused (S.faults source.old) (S.faults source.new)) }
     ensures within { IfOk result (λ found. IfSome found (EndsWithin size)) }
     ensures store { IfOk result (λ found. IfSome found HasSmallStore) }
     ensures error { IfErr result (IsWalkError size) }

@@ -30,10 +30,13 @@ record IsWord (word : List ℕ) (v : Verdict) : Type 0 where
   spelled : word ≡ 0x20 ∷ verdict_name v
 
 -- one verdict's word, or another's
-word_by : (word : List ℕ) (v w : Verdict) (other : Option Verdict) (b : Bool) → w ≢ Silent → bytes_eq word (0x20 ∷ verdict_name w) ≡ b → cond b (Some w) other ≡ Some v → (other ≡ Some v → IsWord word v) → IsWord word v
+word_by : (word : List ℕ) (v w : Verdict) (other : Option Verdict) (b : Bool) → w ≢ Silent
+    → bytes_eq word (0x20 ∷ verdict_name w) ≡ b → cond b (Some w) other ≡ Some v → (other ≡ Some v → IsWord word v)
+    → IsWord word v
 word_by word v w other true loud e is rest =
     let same : w ≡ v = cc (is) in
-    subst (λ x. IsWord word x) same (record { loud = loud; spelled = (bytes_eq-Decides word (0x20 ∷ verdict_name w)).0 e })
+    subst (λ x. IsWord word x) same
+    (record { loud = loud; spelled = (bytes_eq-Decides word (0x20 ∷ verdict_name w)).0 e })
 word_by word v w other false loud e is rest = rest is
 
 -- a word that is read is that of a verdict which isn't silence
@@ -48,22 +51,25 @@ word_is word v e =
 row_digits : (line : List ℕ) (row : VerdictRow) → IsRow row → line ≡ line_of row → take 64 line ≡ encode_lower row.id
 row_digits line row is e = ap (λ l. take 64 l) e ∙ front_of_line row is
 
--- and what these decode to
+-- the first 64 bytes of a row's line decode to the row's id
 row_decodes : (line : List ℕ) (row : VerdictRow) → IsRow row → line ≡ line_of row → decode_of (take 64 line) ≡ Ok row.id
-row_decodes line row is e = ap decode_of (row_digits line row is e) ∙ decode_of-encode_lower row.id (id_bytes row.id is.is_id)
+row_decodes line row is e =
+    ap decode_of (row_digits line row is e) ∙ decode_of-encode_lower row.id (id_bytes row.id is.is_id)
 
 -- each line is a row's, or no row's
 row_or : (line : List ℕ) → ((row : VerdictRow) × IsRowLine line row) ⊎ NoRowLine line
 row_or line = decoded (decode_of (take 64 line)) refl
   where
-    decoded : (r : Result (List ℕ) FromHexError) → decode_of (take 64 line) ≡ r → ((row : VerdictRow) × IsRowLine line row) ⊎ NoRowLine line
+    decoded : (r : Result (List ℕ) FromHexError) → decode_of (take 64 line) ≡ r
+        → ((row : VerdictRow) × IsRowLine line row) ⊎ NoRowLine line
     decoded (Err f) e = inr (λ row is h. let bad = sym e ∙ row_decodes line row is h in cc (bad))
     decoded (Ok id) e = digits (bytes_eq (encode_lower id) (take 64 line)) refl
       where
         same_id : (row : VerdictRow) → IsRow row → line ≡ line_of row → id ≡ row.id
         same_id row is h = decode_of-same (take 64 line) id row.id e (row_decodes line row is h)
 
-        digits : (b : Bool) → bytes_eq (encode_lower id) (take 64 line) ≡ b → ((row : VerdictRow) × IsRowLine line row) ⊎ NoRowLine line
+        digits : (b : Bool) → bytes_eq (encode_lower id) (take 64 line) ≡ b
+            → ((row : VerdictRow) × IsRowLine line row) ⊎ NoRowLine line
         digits false differs =
             inr
             (λ row is h. let same = (bytes_eq-Decides (encode_lower id) (take 64 line)).1 (ap encode_lower (same_id row is h) ∙ sym (row_digits line row is h)) in
@@ -74,12 +80,16 @@ row_or line = decoded (decode_of (take 64 line)) refl
             sized false other = inr (λ row is h. let of = eq-eqb (length id) 32 (ap length (same_id row is h) ∙ is.is_id.sized) in cc (other, of))
             sized true long = named (word_said (drop 64 line)) refl
               where
-                named : (o : Option Verdict) → word_said (drop 64 line) ≡ o → ((row : VerdictRow) × IsRowLine line row) ⊎ NoRowLine line
+                named : (o : Option Verdict) → word_said (drop 64 line) ≡ o
+                    → ((row : VerdictRow) × IsRowLine line row) ⊎ NoRowLine line
                 named None none = inr (no_row_word line (drop 64 line) refl none)
                 named (Some v) says =
                     let word = word_is (drop 64 line) v says in
-                    let spelled : encode_lower id ≡ take 64 line = (bytes_eq-Decides (encode_lower id) (take 64 line)).0 same in
-                    let is_id : IsId id = record { sized = eqb-true (length id) 32 long; bytes = all_bytes id (decode_of-ok (take 64 line) id e).3 } in
+                    let spelled : encode_lower id ≡ take 64 line =
+                    (bytes_eq-Decides (encode_lower id) (take 64 line)).0 same in
+                    let is_id : IsId id =
+                    record
+                    { sized = eqb-true (length id) 32 long; bytes = all_bytes id (decode_of-ok (take 64 line) id e).3 } in
                     let whole : line ≡ encode_lower id ++ 0x20 ∷ verdict_name v =
                     sym (take-append-drop 64 line) ∙ ap (λ (d : List ℕ). d ++ drop 64 line) (sym spelled) ∙ ap (λ (d : List ℕ). encode_lower id ++ d) word.spelled in
                     inl (record { id = id; verdict = v }, (record { is_id = is_id; loud = word.loud }, whole))
@@ -94,9 +104,11 @@ rows_more : (rows : List VerdictRow) (row : VerdictRow) → All IsRow rows → I
 rows_more rows row are is = All-push IsRow rows row are is
 
 -- one line after the other
-file_from : (n : ℕ) (file : List ℕ) (rows : List VerdictRow) (rest : List ℕ) → length rest < n → All IsRow rows → file ≡ lines_of rows ++ rest → FileOr file
+file_from : (n : ℕ) (file : List ℕ) (rows : List VerdictRow) (rest : List ℕ) → length rest < n → All IsRow rows
+    → file ≡ lines_of rows ++ rest → FileOr file
 file_from zero file rows rest less are split = absurd (omega arith)
-file_from (suc n) file rows [] less are split = has_rows rows (record { are_rows = are; spelled = inl (split ∙ append-nil (lines_of rows)) })
+file_from (suc n) file rows [] less are split =
+    has_rows rows (record { are_rows = are; spelled = inl (split ∙ append-nil (lines_of rows)) })
 file_from (suc n) file rows (b ∷ bytes) less are split = go (file_from n file) (row_or (first.line))
   where
     first : Front (b ∷ bytes)
@@ -108,7 +120,8 @@ file_from (suc n) file rows (b ∷ bytes) less are split = go (file_from n file)
       | inl last ↦ has_rows (rows ++ found.0 ∷ [])
           (record { are_rows = rows_more rows found.0 are found.1.0; spelled = inr (record { before = rows; last = found.0; are = refl; spelled = split ∙ ap (λ (r : List ℕ). lines_of rows ++ r) (last ∙ found.1.1) }) })
       | inr more ↦
-          let size : length (b ∷ bytes) ≡ length first.line + suc (length more.0) = ap length more.1 ∙ length-append first.line (0x0A ∷ more.0) in
+          let size : length (b ∷ bytes) ≡ length first.line + suc (length more.0) =
+          ap length more.1 ∙ length-append first.line (0x0A ∷ more.0) in
           onwards (rows ++ found.0 ∷ []) more.0 (omega (arith, less, size)) (rows_more rows found.0 are found.1.0)
           (split ∙ ap (λ (r : List ℕ). lines_of rows ++ r) (more.1 ∙ ap (λ (l : List ℕ). l ++ 0x0A ∷ more.0) found.1.1) ∙ sym (lines_of-more rows found.0 more.0))
     ]
@@ -121,7 +134,8 @@ file_from (suc n) file rows (b ∷ bytes) less are split = go (file_from n file)
           place = refl;
           some = λ e. cc (e);
           bad = λ begins.
-              let other = lines-first (b ∷ bytes) (line_of begins.0) (omega arith) (line_clean begins.0 begins.1) begins.2 in
+              let other =
+              lines-first (b ∷ bytes) (line_of begins.0) (omega arith) (line_clean begins.0 begins.1) begins.2 in
               none begins.0 begins.1 (heads first.line (line_of begins.0) first.more other.0 (sym first.is ∙ other.1));
         })
 
@@ -129,7 +143,7 @@ file_from (suc n) file rows (b ∷ bytes) less are split = go (file_from n file)
 pub file_or : (file : List ℕ) → FileOr file
 file_or file = file_from (suc (length file)) file [] file (omega arith) (All-nil IsRow) refl
 
--- the same, as the law says it
+-- each file has rows or a bad line, as the law says it
 pub each_file : (file : List ℕ) → ((rows : List VerdictRow) × HasRows rows file) ⊎ ((n : ℕ) × HasBadLine n file)
 each_file file = go (file_or file)
   where
@@ -139,4 +153,5 @@ each_file file = go (file_or file)
 
 -- a file has one list of rows
 pub one_list : (file : List ℕ) (rows others : List VerdictRow) → HasRows rows file → HasRows others file → rows ≡ others
-one_list file rows others a b = same_rows rows others a.are_rows b.are_rows (sym (lines-has rows file a) ∙ lines-has others file b)
+one_list file rows others a b =
+    same_rows rows others a.are_rows b.are_rows (sym (lines-has rows file a) ∙ lines-has others file b)

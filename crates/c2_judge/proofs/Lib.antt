@@ -5,3 +5,4 @@ pub mod Lists
 pub mod OneReading
 pub mod PanelSteps
 pub mod RowSteps
+pub mod TheLaws

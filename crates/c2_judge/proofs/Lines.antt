@@ -14,7 +14,8 @@ use Rattle.c2_judge.specs.Reading.{has_feed, FirstLine, word_said}
 
 -- the bytes of an id, past its end too
 pub id_bytes : (id : List ℕ) → IsId id → IsBytes id
-id_bytes id h i = elim (cases_lt i (length id)) [ inl lt ↦ h.bytes i 0 lt | inr past ↦ rw (get_or_past id i 0 past) (omega arith) ]
+id_bytes id h i =
+    elim (cases_lt i (length id)) [ inl lt ↦ h.bytes i 0 lt | inr past ↦ rw (get_or_past id i 0 past) (omega arith) ]
 
 -- no digit is a line feed
 digit_clean : (d : ℕ) → d < 16 → eqb (get_or lower_digits d 0) 0x0A ≡ false
@@ -70,7 +71,8 @@ short_line line short row h is =
     absurd (omega arith)
 
 -- a line whose first 64 bytes are no id's digits is no row's
-pub no_row_digits : (line digits : List ℕ) → digits ≡ take 64 line → ((id : List ℕ) → IsId id → digits ≢ encode_lower id) → (row : VerdictRow) → IsRow row → line ≢ line_of row
+pub no_row_digits : (line digits : List ℕ) → digits ≡ take 64 line
+    → ((id : List ℕ) → IsId id → digits ≢ encode_lower id) → (row : VerdictRow) → IsRow row → line ≢ line_of row
 no_row_digits line digits is none row h e = none row.id h.is_id (is ∙ ap (λ l. take 64 l) e ∙ front_of_line row h)
 
 -- the word of a verdict is read as this verdict
@@ -82,9 +84,11 @@ word_read Invalid loud = refl
 word_read Silent loud = absurd (loud refl)
 
 -- a line whose rest is no verdict's word is no row's
-pub no_row_word : (line word : List ℕ) → word ≡ drop 64 line → word_said word ≡ None → (row : VerdictRow) → IsRow row → line ≢ line_of row
+pub no_row_word : (line word : List ℕ) → word ≡ drop 64 line → word_said word ≡ None → (row : VerdictRow) → IsRow row
+    → line ≢ line_of row
 no_row_word line word is none row h e =
-    let named : word_said word ≡ Some row.verdict = ap word_said (is ∙ ap (λ l. drop 64 l) e ∙ word_of_line row h) ∙ word_read row.verdict h.loud in
+    let named : word_said word ≡ Some row.verdict =
+    ap word_said (is ∙ ap (λ l. drop 64 l) e ∙ word_of_line row h) ∙ word_read row.verdict h.loud in
     cc (none, named)
 
 -- the lines of some bytes, of which the last may lack its line feed
@@ -116,30 +120,36 @@ lines-open b (c ∷ line) clean =
     rw (parts.0, lines-open c line parts.1) refl
 
 -- a prefix without a line feed, which a line feed or the end follows, is the first line
-pub lines-first : (bytes line : List ℕ) → 0 < length bytes → has_feed line ≡ false → ((bytes ≡ line) ⊎ ((rest : List ℕ) × (bytes ≡ line ++ 0x0A ∷ rest))) → (more : List (List ℕ)) × (lines bytes ≡ line ∷ more)
+pub lines-first : (bytes line : List ℕ) → 0 < length bytes → has_feed line ≡ false
+    → ((bytes ≡ line) ⊎ ((rest : List ℕ) × (bytes ≡ line ++ 0x0A ∷ rest)))
+    → (more : List (List ℕ)) × (lines bytes ≡ line ∷ more)
 lines-first bytes line some clean (inr h) = (lines h.0, ap lines h.1 ∙ lines-feed line h.0 clean)
 lines-first [] line some clean (inl h) = absurd (omega arith)
-lines-first (b ∷ bytes) line some clean (inl h) = ([], lines-open b bytes (ap (λ l. has_feed l) h ∙ clean) ∙ ap (λ l. l ∷ []) h)
+lines-first (b ∷ bytes) line some clean (inl h) =
+    ([], lines-open b bytes (ap (λ l. has_feed l) h ∙ clean) ∙ ap (λ l. l ∷ []) h)
 
 -- the first of some lines, or an empty one
 unfoldable pub first_of : List (List ℕ) → List ℕ
 first_of [] = []
 first_of (line ∷ rest) = line
 
--- and there is only one
-pub same_line : (bytes line behind other : List ℕ) → FirstLine bytes line behind → 0 < length bytes → has_feed other ≡ false → ((bytes ≡ other) ⊎ ((rest : List ℕ) × (bytes ≡ other ++ 0x0A ∷ rest))) → line ≡ other
+-- a file has one first line only
+pub same_line : (bytes line behind other : List ℕ) → FirstLine bytes line behind → 0 < length bytes
+    → has_feed other ≡ false → ((bytes ≡ other) ⊎ ((rest : List ℕ) × (bytes ≡ other ++ 0x0A ∷ rest))) → line ≡ other
 unfolding first_of
 same_line bytes line behind other first some clean stands =
     let one = lines-first bytes line some first.clean (either first.split) in
     let two = lines-first bytes other some clean stands in
     ap first_of (sym one.1 ∙ two.1)
   where
-    either : {bytes line behind : List ℕ} → ((bytes ≡ line ++ 0x0A ∷ behind) ⊎ ((bytes ≡ line) × (behind ≡ []))) → (bytes ≡ line) ⊎ ((rest : List ℕ) × (bytes ≡ line ++ 0x0A ∷ rest))
+    either : {bytes line behind : List ℕ} → ((bytes ≡ line ++ 0x0A ∷ behind) ⊎ ((bytes ≡ line) × (behind ≡ [])))
+        → (bytes ≡ line) ⊎ ((rest : List ℕ) × (bytes ≡ line ++ 0x0A ∷ rest))
     either {behind = behind} (inl e) = inr (behind, e)
     either (inr h) = inl h.0
 
 -- what is behind a line is shorter
-pub behind_shorter : (bytes line behind : List ℕ) → FirstLine bytes line behind → 0 < length bytes → length behind < length bytes
+pub behind_shorter : (bytes line behind : List ℕ) → FirstLine bytes line behind → 0 < length bytes
+    → length behind < length bytes
 behind_shorter bytes line behind first some =
     elim first.split [
       | inl e ↦

@@ -30,13 +30,14 @@ pub heads : (x y : List ℕ) (xs ys : List (List ℕ)) → x ∷ xs ≡ y ∷ ys
 unfolding first_of
 heads x y xs ys e = ap first_of e
 
--- and equal rests
+-- equal lists have equal rests
 tails : (x y : List ℕ) (xs ys : List (List ℕ)) → x ∷ xs ≡ y ∷ ys → xs ≡ ys
 unfolding rest_of
 tails x y xs ys e = ap rest_of e
 
 -- the lines of rows' lines and of what is behind them
-lines-rows : (rows : List VerdictRow) (rest : List ℕ) → All IsRow rows → lines (lines_of rows ++ rest) ≡ map line_of rows ++ lines rest
+lines-rows : (rows : List VerdictRow) (rest : List ℕ) → All IsRow rows
+    → lines (lines_of rows ++ rest) ≡ map line_of rows ++ lines rest
 lines-rows [] rest are = refl
 lines-rows (row ∷ rows) rest are =
     ap lines (append_assoc (line_of row) (0x0A ∷ lines_of rows) rest)
@@ -58,7 +59,8 @@ last_row [] last are = All-head IsRow last [] are
 last_row (row ∷ front) last are = last_row front last (All-tail IsRow row (front ++ last ∷ []) are)
 
 -- the lines of all rows but the last, and of what follows
-front_rows : (front : List VerdictRow) (last : VerdictRow) → All IsRow (front ++ last ∷ []) → (rest : List ℕ) → lines (lines_of front ++ rest) ≡ map line_of front ++ lines rest
+front_rows : (front : List VerdictRow) (last : VerdictRow) → All IsRow (front ++ last ∷ []) → (rest : List ℕ)
+    → lines (lines_of front ++ rest) ≡ map line_of front ++ lines rest
 front_rows [] last are rest = refl
 front_rows (row ∷ front) last are rest =
     ap lines (append_assoc (line_of row) (0x0A ∷ lines_of front) rest)
@@ -72,10 +74,12 @@ lines-has rows file has =
     elim has.spelled [
       | inl e ↦ ap lines (e ∙ sym (append-nil (lines_of rows))) ∙ lines-rows rows [] has.are_rows ∙ append-nil (map line_of rows)
       | inr o ↦
-          let are : All IsRow (o.before ++ o.last ∷ []) = All-same IsRow (o.before ++ o.last ∷ []) rows (sym o.are) has.are_rows in
+          let are : All IsRow (o.before ++ o.last ∷ []) =
+          All-same IsRow (o.before ++ o.last ∷ []) rows (sym o.are) has.are_rows in
           ap lines o.spelled
           ∙ front_rows o.before o.last are (line_of o.last)
-          ∙ ap (λ ls. map line_of o.before ++ ls) (whole_line (line_of o.last) (line_some o.last) (line_clean o.last (last_row o.before o.last are)))
+          ∙ ap (λ ls. map line_of o.before ++ ls)
+          (whole_line (line_of o.last) (line_some o.last) (line_clean o.last (last_row o.before o.last are)))
           ∙ sym (map-append line_of o.before (o.last ∷ []))
           ∙ ap (map line_of) (sym o.are)
     ]
@@ -83,22 +87,33 @@ lines-has rows file has =
 -- a line tells its row
 same_row : (r s : VerdictRow) → IsRow r → IsRow s → line_of r ≡ line_of s → r ≡ s
 same_row r s hr hs e =
-    let digits : encode_lower r.id ≡ encode_lower s.id = sym (front_of_line r hr) ∙ ap (λ l. take 64 l) e ∙ front_of_line s hs in
-    let id : r.id ≡ s.id = decode_of-same (encode_lower r.id) r.id s.id (decode_of-encode_lower r.id (id_bytes r.id hr.is_id)) (rw digits (decode_of-encode_lower s.id (id_bytes s.id hs.is_id))) in
-    let word : 0x20 ∷ verdict_name r.verdict ≡ 0x20 ∷ verdict_name s.verdict = sym (word_of_line r hr) ∙ ap (λ l. drop 64 l) e ∙ word_of_line s hs in
-    let both : Some r.verdict ≡ Some s.verdict = sym (word_read r.verdict hr.loud) ∙ ap word_said word ∙ word_read s.verdict hs.loud in
+    let digits : encode_lower r.id ≡ encode_lower s.id =
+    sym (front_of_line r hr) ∙ ap (λ l. take 64 l) e ∙ front_of_line s hs in
+    let id : r.id ≡ s.id =
+    decode_of-same (encode_lower r.id) r.id s.id (decode_of-encode_lower r.id (id_bytes r.id hr.is_id))
+    (rw digits (decode_of-encode_lower s.id (id_bytes s.id hs.is_id))) in
+    let word : 0x20 ∷ verdict_name r.verdict ≡ 0x20 ∷ verdict_name s.verdict =
+    sym (word_of_line r hr) ∙ ap (λ l. drop 64 l) e ∙ word_of_line s hs in
+    let both : Some r.verdict ≡ Some s.verdict =
+    sym (word_read r.verdict hr.loud) ∙ ap word_said word ∙ word_read s.verdict hs.loud in
     let verdict : r.verdict ≡ s.verdict = cc both in
     let one : VerdictRow = record { id = s.id; verdict = r.verdict } in
-    ap {B = VerdictRow} (λ i. record { id = i; verdict = r.verdict }) id ∙ ap {B = VerdictRow} (λ v. record { id = s.id; verdict = v }) verdict
+    ap {B = VerdictRow} (λ i. record { id = i; verdict = r.verdict }) id
+    ∙ ap {B = VerdictRow} (λ v. record { id = s.id; verdict = v }) verdict
 
 -- lines tell their rows
-pub same_rows : (rows others : List VerdictRow) → All IsRow rows → All IsRow others → map line_of rows ≡ map line_of others → rows ≡ others
+pub same_rows : (rows others : List VerdictRow) → All IsRow rows → All IsRow others
+    → map line_of rows ≡ map line_of others → rows ≡ others
 same_rows [] [] a b e = refl
 same_rows [] (s ∷ others) a b e = absurd (cc e)
 same_rows (r ∷ rows) [] a b e = absurd (cc e)
 same_rows (r ∷ rows) (s ∷ others) a b e =
-    let row = same_row r s (All-head IsRow r rows a) (All-head IsRow s others b) (heads (line_of r) (line_of s) (map line_of rows) (map line_of others) e) in
-    let rest = same_rows rows others (All-tail IsRow r rows a) (All-tail IsRow s others b) (tails (line_of r) (line_of s) (map line_of rows) (map line_of others) e) in
+    let row =
+    same_row r s (All-head IsRow r rows a) (All-head IsRow s others b)
+    (heads (line_of r) (line_of s) (map line_of rows) (map line_of others) e) in
+    let rest =
+    same_rows rows others (All-tail IsRow r rows a) (All-tail IsRow s others b)
+    (tails (line_of r) (line_of s) (map line_of rows) (map line_of others) e) in
     ap (λ x. x ∷ rows) row ∙ ap (λ xs. s ∷ xs) rest
 
 -- the first line of bytes that aren't empty
@@ -134,11 +149,14 @@ front_of b (c ∷ bytes) =
     ]
 
 -- a line that stands where rows' lines stand is a row's
-finds : (rows others : List VerdictRow) (line : List ℕ) (more : List (List ℕ)) → All IsRow rows → map line_of rows ≡ map line_of others ++ line ∷ more → (row : VerdictRow) × IsRow row × (line ≡ line_of row)
+finds : (rows others : List VerdictRow) (line : List ℕ) (more : List (List ℕ)) → All IsRow rows
+    → map line_of rows ≡ map line_of others ++ line ∷ more → (row : VerdictRow) × IsRow row × (line ≡ line_of row)
 finds [] [] line more a e = absurd (cc e)
 finds [] (s ∷ others) line more a e = absurd (cc e)
 finds (r ∷ rows) [] line more a e = (r, All-head IsRow r rows a, sym (heads (line_of r) line (map line_of rows) more e))
-finds (r ∷ rows) (s ∷ others) line more a e = finds rows others line more (All-tail IsRow r rows a) (tails (line_of r) (line_of s) (map line_of rows) (map line_of others ++ line ∷ more) e)
+finds (r ∷ rows) (s ∷ others) line more a e =
+    finds rows others line more (All-tail IsRow r rows a)
+    (tails (line_of r) (line_of s) (map line_of rows) (map line_of others ++ line ∷ more) e)
 
 -- two prefixes of rows end at one place, where none of the lines behind them is a row's
 same_place : (rows others : List VerdictRow) (line line' : List ℕ) (more more' : List (List ℕ)) → All IsRow rows
@@ -146,10 +164,14 @@ same_place : (rows others : List VerdictRow) (line line' : List ℕ) (more more'
     → ((row : VerdictRow) → IsRow row → line' ≢ line_of row)
     → map line_of rows ++ line ∷ more ≡ map line_of others ++ line' ∷ more' → length rows ≡ length others
 same_place [] [] line line' more more' a b bad bad' e = refl
-same_place [] (s ∷ others) line line' more more' a b bad bad' e = absurd (bad s (All-head IsRow s others b) (heads line (line_of s) more (map line_of others ++ line' ∷ more') e))
-same_place (r ∷ rows) [] line line' more more' a b bad bad' e = absurd (bad' r (All-head IsRow r rows a) (sym (heads (line_of r) line' (map line_of rows ++ line ∷ more) more' e)))
+same_place [] (s ∷ others) line line' more more' a b bad bad' e =
+    absurd (bad s (All-head IsRow s others b) (heads line (line_of s) more (map line_of others ++ line' ∷ more') e))
+same_place (r ∷ rows) [] line line' more more' a b bad bad' e =
+    absurd (bad' r (All-head IsRow r rows a) (sym (heads (line_of r) line' (map line_of rows ++ line ∷ more) more' e)))
 same_place (r ∷ rows) (s ∷ others) line line' more more' a b bad bad' e =
-    let rest = same_place rows others line line' more more' (All-tail IsRow r rows a) (All-tail IsRow s others b) bad bad' (tails (line_of r) (line_of s) (map line_of rows ++ line ∷ more) (map line_of others ++ line' ∷ more') e) in
+    let rest =
+    same_place rows others line line' more more' (All-tail IsRow r rows a) (All-tail IsRow s others b) bad bad'
+    (tails (line_of r) (line_of s) (map line_of rows ++ line ∷ more) (map line_of others ++ line' ∷ more') e) in
     omega arith
 
 -- the bad line of a file, and the lines before and behind it
@@ -181,9 +203,12 @@ bad_front n file h =
     first_line (b ∷ bytes) full = front_of b bytes
 
 -- what a judge says is what any rows of the file say
-pub only_these : (file : List ℕ) (said : Question → Verdict) → SaysFile file said → (rows : List VerdictRow) → HasRows rows file → (q : Question) → said q ≡ rows_say rows q
+pub only_these : (file : List ℕ) (said : Question → Verdict) → SaysFile file said → (rows : List VerdictRow)
+    → HasRows rows file → (q : Question) → said q ≡ rows_say rows q
 only_these file said says rows has q =
-    let same = same_rows says.0 rows says.1.are_rows has.are_rows (sym (lines-has says.0 file says.1) ∙ lines-has rows file has) in
+    let same =
+    same_rows says.0 rows says.1.are_rows has.are_rows
+    (sym (lines-has says.0 file says.1) ∙ lines-has rows file has) in
     says.3 q ∙ ap (λ rs. rows_say rs q) same
 
 -- a file with rows has no bad line
@@ -198,7 +223,8 @@ pub none_said : (file : List ℕ) (said : Question → Verdict) → SaysFile fil
 none_said file said says n h = apart n file says.0 says.1 h
 
 -- a file with rows is refused where memory runs out alone
-pub only_memory : (file : List ℕ) (e : ListError) → HasListReason file e → (rows : List VerdictRow) → HasRows rows file → length file ≤ MAX_INPUT_LEN → e ≡ NoMemory
+pub only_memory : (file : List ℕ) (e : ListError) → HasListReason file e → (rows : List VerdictRow) → HasRows rows file
+    → length file ≤ MAX_INPUT_LEN → e ≡ NoMemory
 only_memory file (TooLarge n) reason rows has fits = let above = reason.1 in absurd (omega arith)
 only_memory file (BadRow n) reason rows has fits = absurd (apart n file rows has reason.0)
 only_memory file NoMemory reason rows has fits = refl
@@ -208,22 +234,28 @@ pub one_place : (file : List ℕ) (m n : ℕ) → HasBadLine m file → HasBadLi
 one_place file m n a b =
     let one = bad_front m file a in
     let two = bad_front n file b in
-    let same = same_place one.rows two.rows one.line two.line one.more two.more one.are_rows two.are_rows one.bad two.bad (sym one.is ∙ two.is) in
+    let same =
+    same_place one.rows two.rows one.line two.line one.more two.more one.are_rows two.are_rows one.bad two.bad
+    (sym one.is ∙ two.is) in
     omega (arith, one.place, two.place)
 
 -- a file with a bad line is refused with its place, or where memory runs out
-pub only_place : (file : List ℕ) (e : ListError) → HasListReason file e → (n : ℕ) → HasBadLine n file → length file ≤ MAX_INPUT_LEN → (e ≡ BadRow n) ⊎ (e ≡ NoMemory)
+pub only_place : (file : List ℕ) (e : ListError) → HasListReason file e → (n : ℕ) → HasBadLine n file
+    → length file ≤ MAX_INPUT_LEN → (e ≡ BadRow n) ⊎ (e ≡ NoMemory)
 only_place file (TooLarge m) reason n h fits = let above = reason.1 in absurd (omega arith)
 only_place file (BadRow m) reason n h fits =
     inl (ap BadRow (one_place file m n reason.0 h))
 only_place file NoMemory reason n h fits = inr refl
 
 -- the answers of the reading, as the public clauses say them
-pub says_file : (file : List ℕ) (verdicts : BTreeMap (List ℕ) Verdict) → HasReadRows file (Ok verdicts) → length file ≤ MAX_INPUT_LEN → SaysFile file (λ q. said_at verdicts (question_digest q))
-says_file file verdicts read fits = (read.0, read.1, fits, λ q. ap (λ o. unwrap_or o Silent) (read.2 (question_digest q)))
+pub says_file : (file : List ℕ) (verdicts : BTreeMap (List ℕ) Verdict) → HasReadRows file (Ok verdicts)
+    → length file ≤ MAX_INPUT_LEN → SaysFile file (λ q. said_at verdicts (question_digest q))
+says_file file verdicts read fits =
+    (read.0, read.1, fits, λ q. ap (λ o. unwrap_or o Silent) (read.2 (question_digest q)))
 
 -- an error of reading a list that isn't too large has its reason
-pub reason_of : (file : List ℕ) (e : ListError) → HasReadRows file (Err e) → length file ≤ MAX_INPUT_LEN → HasListReason file e
+pub reason_of : (file : List ℕ) (e : ListError) → HasReadRows file (Err e) → length file ≤ MAX_INPUT_LEN
+    → HasListReason file e
 reason_of file (TooLarge n) read fits = absurd read
 reason_of file (BadRow n) read fits = (read, fits)
 reason_of file NoMemory read fits = tt

@@ -31,32 +31,39 @@ size_some Invalid vs = omega arith
 size_some Silent vs = omega arith
 
 -- the panel's answer at its place
-pub answer_found : (said now : List Verdict) (i : ℕ) (v : Verdict) → now ≡ said → drop i now ≡ v ∷ drop (i + 1) now → first_said said ≡ first_said (drop i said) → v ≢ Silent → v ≡ first_said said
+pub answer_found : (said now : List Verdict) (i : ℕ) (v : Verdict) → now ≡ said → drop i now ≡ v ∷ drop (i + 1) now
+    → first_said said ≡ first_said (drop i said) → v ≢ Silent → v ≡ first_said said
 answer_found said now i v same at so_far loud =
     let at' : drop i said ≡ v ∷ drop (i + 1) said = rw same at at in
     sym (so_far ∙ ap first_said at' ∙ said_first v (drop (i + 1) said) loud)
 
 -- the panel's size, found at its place
-pub size_found : (said now : List Verdict) (i : ℕ) (v : Verdict) → now ≡ said → drop i now ≡ v ∷ drop (i + 1) now → panel_size said ≡ i + panel_size (drop i said) → v ≢ Silent → panel_size said ≡ i + 1
+pub size_found : (said now : List Verdict) (i : ℕ) (v : Verdict) → now ≡ said → drop i now ≡ v ∷ drop (i + 1) now
+    → panel_size said ≡ i + panel_size (drop i said) → v ≢ Silent → panel_size said ≡ i + 1
 size_found said now i v same at so_far loud =
     let at' : drop i said ≡ v ∷ drop (i + 1) said = rw same at at in
     so_far ∙ ap (λ vs. i + panel_size vs) at' ∙ ap (λ n. i + n) (size_first v (drop (i + 1) said) loud)
 
 -- the panel's answer after one more judge that says Silent
-pub answer_more : (said now : List Verdict) (i : ℕ) (v : Verdict) → now ≡ said → drop i now ≡ v ∷ drop (i + 1) now → first_said said ≡ first_said (drop i said) → v ≡ Silent → first_said said ≡ first_said (drop (i + 1) said)
+pub answer_more : (said now : List Verdict) (i : ℕ) (v : Verdict) → now ≡ said → drop i now ≡ v ∷ drop (i + 1) now
+    → first_said said ≡ first_said (drop i said) → v ≡ Silent → first_said said ≡ first_said (drop (i + 1) said)
 answer_more said now i v same at so_far silent =
     let at' : drop i said ≡ v ∷ drop (i + 1) said = rw same at at in
     so_far ∙ ap first_said at' ∙ ap (λ w. first_said (w ∷ drop (i + 1) said)) silent
 
 -- the panel's size after one more judge that says Silent
-pub size_more : (said now : List Verdict) (i : ℕ) (v : Verdict) → now ≡ said → drop i now ≡ v ∷ drop (i + 1) now → panel_size said ≡ i + panel_size (drop i said) → v ≡ Silent → panel_size said ≡ (i + 1) + panel_size (drop (i + 1) said)
+pub size_more : (said now : List Verdict) (i : ℕ) (v : Verdict) → now ≡ said → drop i now ≡ v ∷ drop (i + 1) now
+    → panel_size said ≡ i + panel_size (drop i said) → v ≡ Silent
+    → panel_size said ≡ (i + 1) + panel_size (drop (i + 1) said)
 size_more said now i v same at so_far silent =
     let at' : drop i said ≡ v ∷ drop (i + 1) said = rw same at at in
-    let step : panel_size said ≡ i + (panel_size (drop (i + 1) said) + 1) = so_far ∙ ap (λ vs. i + panel_size vs) at' ∙ ap (λ w. i + panel_size (w ∷ drop (i + 1) said)) silent in
+    let step : panel_size said ≡ i + (panel_size (drop (i + 1) said) + 1) =
+    so_far ∙ ap (λ vs. i + panel_size vs) at' ∙ ap (λ w. i + panel_size (w ∷ drop (i + 1) said)) silent in
     omega arith
 
 -- counts below a place moved, and then that at the place
-pub MovedBelow-more : (Step : ℕ → ℕ → Type 0) (i : ℕ) (before middle now : List ℕ) → MovedBelow Step i before middle → MovedAt Step i middle now → MovedBelow Step (i + 1) before now
+pub MovedBelow-more : (Step : ℕ → ℕ → Type 0) (i : ℕ) (before middle now : List ℕ) → MovedBelow Step i before middle
+    → MovedAt Step i middle now → MovedBelow Step (i + 1) before now
 MovedBelow-more Step i before middle now below at = record {
   same_length = at.same_length ∙ below.same_length;
   moved = below_more _ _
@@ -69,13 +76,17 @@ MovedBelow-more Step i before middle now below at = record {
 }
 
 -- the judge at a place that was reached was due
-due : (said : List Verdict) (i : ℕ) → i < length said → panel_size said ≡ i + panel_size (drop i said) → i < panel_size said
+due : (said : List Verdict) (i : ℕ) → i < length said → panel_size said ≡ i + panel_size (drop i said)
+    → i < panel_size said
 due said i lt size =
-    let here : 1 ≤ panel_size (drop i said) = rw (drop_more said i Silent lt) (size_some (get_or said i Silent) (drop (i + 1) said)) in
+    let here : 1 ≤ panel_size (drop i said) =
+    rw (drop_more said i Silent lt) (size_some (get_or said i Silent) (drop (i + 1) said)) in
     omega arith
 
 -- the judge at `i` failed
-pub failed_at : (i : ℕ) (said now : List Verdict) (a b c : List ℕ) (d e f : List ℕ) → now ≡ said → i < length now → panel_size said ≡ i + panel_size (drop i said) → MovedBelow Counted i a b → MovedAt Counted i b c → e ≡ d → MovedAt Failing i e f → FailedAt i said a c d f
+pub failed_at : (i : ℕ) (said now : List Verdict) (a b c : List ℕ) (d e f : List ℕ) → now ≡ said → i < length now
+    → panel_size said ≡ i + panel_size (drop i said) → MovedBelow Counted i a b → MovedAt Counted i b c → e ≡ d
+    → MovedAt Failing i e f → FailedAt i said a c d f
 failed_at i said now a b c d e f same lt size below at kept failed = record {
   was_due = due said i (rw same at lt) size;
   was_asked = MovedBelow-more Counted i a b c below at;
@@ -83,11 +94,13 @@ failed_at i said now a b c d e f same lt size below at kept failed = record {
 }
 
 -- where all said Silent, the panel says so
-pub answer_all : (said : List Verdict) (i : ℕ) → length said ≤ i → first_said said ≡ first_said (drop i said) → Silent ≡ first_said said
+pub answer_all : (said : List Verdict) (i : ℕ) → length said ≤ i → first_said said ≡ first_said (drop i said)
+    → Silent ≡ first_said said
 answer_all said i past so_far = sym (so_far ∙ ap first_said (drop_all i said past))
 
 -- where all said Silent, all were asked
-pub size_all : (said : List Verdict) (i : ℕ) → length said ≤ i → panel_size said ≡ i + panel_size (drop i said) → panel_size said ≡ i
+pub size_all : (said : List Verdict) (i : ℕ) → length said ≤ i → panel_size said ≡ i + panel_size (drop i said)
+    → panel_size said ≡ i
 size_all said i past size = size ∙ ap (λ vs. i + panel_size vs) (drop_all i said past) ∙ add-zero i
 
 -- a failed ask is a fault that rose
@@ -95,7 +108,8 @@ pub SomeRose-at : (i : ℕ) (d e f : List ℕ) → i < length d → e ≡ d → 
 SomeRose-at i d e f lt kept failed = (i, lt, rw kept at failed.moved.rose)
 
 -- counts that moved by steps that don't fall haven't fallen
-pub below_none_fell : (Step : ℕ → ℕ → Type 0) → ((a b : ℕ) → Step a b → a ≤ b) → (n : ℕ) (before now : List ℕ) → MovedBelow Step n before now → NoneFell before now
+pub below_none_fell : (Step : ℕ → ℕ → Type 0) → ((a b : ℕ) → Step a b → a ≤ b) → (n : ℕ) (before now : List ℕ)
+    → MovedBelow Step n before now → NoneFell before now
 below_none_fell Step up n before now moved i lt =
     elim (cases_lt i n) [
       | inl below ↦ up _ _ (moved.moved i below)
@@ -115,11 +129,13 @@ pub same_none_fell : (before now : List ℕ) → now ≡ before → NoneFell bef
 same_none_fell before now same i lt = rw same (omega arith)
 
 -- counts of which one rose
-pub failing_none_fell : (i : ℕ) (before middle now : List ℕ) → middle ≡ before → MovedAt Failing i middle now → NoneFell before now
+pub failing_none_fell : (i : ℕ) (before middle now : List ℕ) → middle ≡ before → MovedAt Failing i middle now
+    → NoneFell before now
 failing_none_fell i before middle now kept failed = below_none_fell (λ a b. a ≤ b) (λ a b le. le) (i + 1) before now (rw kept at (MovedBelow-more (λ a b. a ≤ b) i middle middle now (standing i middle) (weaker i middle now failed)))
   where
     standing : (i : ℕ) (l : List ℕ) → MovedBelow (λ a b. a ≤ b) i l l
     standing i l = record { same_length = refl; moved = λ k h. omega arith; later = refl }
 
     weaker : (i : ℕ) (before now : List ℕ) → MovedAt Failing i before now → MovedAt (λ a b. a ≤ b) i before now
-    weaker i before now at = record { same_length = at.same_length; earlier = at.earlier; moved = at.moved.later; later = at.later }
+    weaker i before now at =
+        record { same_length = at.same_length; earlier = at.earlier; moved = at.moved.later; later = at.later }

@@ -9,6 +9,7 @@ use Rattle.c2_spec.specs.Jumbf.Tree.{Tree}
 use Rattle.c2_spec.specs.Jumbf.Boxes.{tree_count, box_at, child_indices, index_after, any_label}
 use Rattle.c2_spec.proofs.JumbfChildren.{Chain, chain_of, chain_more, chain_end}
 use Rattle.c2_jumbf.specs.Labels.{is_label}
+use Rattle.c2_lemmas.proofs.Each.{each_push}
 
 -- The children that are still to come, after some were passed.
 pub record AtChild (t : Tree) (i n end at : ℕ) : Type 0 where
@@ -19,14 +20,17 @@ pub record AtChild (t : Tree) (i n end at : ℕ) : Type 0 where
 
 -- before the first child all children are still to come, the first of them at the next index
 pub child_start : (t : Tree) (i end : ℕ) → i < tree_count t → end ≡ index_after t i → AtChild t i 0 end (i + 1)
-child_start t i end l e = record { end_is = e; rest = child_indices t i; left = refl; chain = subst (λ k. Chain t k (i + 1) (child_indices t i)) (sym e) (chain_of t i l) }
+child_start t i end l e =
+    record
+    { end_is = e; rest = child_indices t i; left = refl; chain = subst (λ k. Chain t k (i + 1) (child_indices t i)) (sym e) (chain_of t i l) }
 
 -- before the end there is a box of the tree
 pub child_inside : (t : Tree) (i n end at : ℕ) → AtChild t i n end at → at < end → at < tree_count t
 child_inside t i n end at h l = (chain_more t end at h.rest h.chain l).2.1.1.0
 
 -- after one more child the next is at the index after its last descendant
-pub child_next : (t : Tree) (i n end at next : ℕ) → AtChild t i n end at → at < end → next ≡ index_after t at → AtChild t i (n + 1) end next
+pub child_next : (t : Tree) (i n end at next : ℕ) → AtChild t i n end at → at < end → next ≡ index_after t at
+    → AtChild t i (n + 1) end next
 child_next t i n end at next h l e =
     let m = chain_more t end at h.rest h.chain l in
     record {
@@ -41,8 +45,10 @@ none_left : (n k : ℕ) (xs : List ℕ) → drop n xs ≡ [] → n ≤ k → sli
 none_left n k xs e l = let m : length xs - n ≡ 0 = sym (length-drop n xs) ∙ ap length e in slice_get_past xs k (omega (arith, m, l))
 
 -- at the end there is no child with this number
-pub child_out : (t : Tree) (i n end at k : ℕ) → AtChild t i n end at → end ≤ at → n ≤ k → None ≡ slice_get (child_indices t i) k
-child_out t i n end at k h out l = sym (none_left n k (child_indices t i) (h.left ∙ chain_end t end at h.rest h.chain out) l)
+pub child_out : (t : Tree) (i n end at k : ℕ) → AtChild t i n end at → end ≤ at → n ≤ k
+    → None ≡ slice_get (child_indices t i) k
+child_out t i n end at k h out l =
+    sym (none_left n k (child_indices t i) (h.left ∙ chain_end t end at h.rest h.chain out) l)
 
 -- the first of what is left of a list is the member at that place
 get_left : (k x : ℕ) (xs rest : List ℕ) → drop k xs ≡ x ∷ rest → slice_get xs k ≡ Some x
@@ -52,7 +58,8 @@ get_left (suc k) x [] rest e = absurd (cc (e))
 get_left (suc k) x (y ∷ xs) rest e = get_left k x xs rest e
 
 -- before the end the child with this number is here
-pub child_here : (t : Tree) (i end at k : ℕ) → AtChild t i k end at → at < end → Some at ≡ slice_get (child_indices t i) k
+pub child_here : (t : Tree) (i end at k : ℕ) → AtChild t i k end at → at < end
+    → Some at ≡ slice_get (child_indices t i) k
 child_here t i end at k h l = let m = chain_more t end at h.rest h.chain l in sym (get_left k at (child_indices t i) m.0 (h.left ∙ m.1))
 
 -- The children that were passed haven't the label.
@@ -69,20 +76,20 @@ pub record Sought (t : Tree) (i end : ℕ) (label : List ℕ) (at : ℕ) : Type 
   pub others : AllByRecursion (Unlabelled t label) before
 
 -- before the first child none was passed
-pub sought_start : (t : Tree) (i end : ℕ) (label : List ℕ) → i < tree_count t → end ≡ index_after t i → Sought t i end label (i + 1)
-sought_start t i end label l e = record { end_is = e; before = []; rest = child_indices t i; split = refl; chain = subst (λ k. Chain t k (i + 1) (child_indices t i)) (sym e) (chain_of t i l); others = tt }
+pub sought_start : (t : Tree) (i end : ℕ) (label : List ℕ) → i < tree_count t → end ≡ index_after t i
+    → Sought t i end label (i + 1)
+sought_start t i end label l e =
+    record
+    { end_is = e; before = []; rest = child_indices t i; split = refl; chain = subst (λ k. Chain t k (i + 1) (child_indices t i)) (sym e) (chain_of t i l); others = tt }
 
 -- before the end there is a box of the tree, which ends by that end with all inside it
-pub sought_inside : (t : Tree) (i end : ℕ) (label : List ℕ) (at : ℕ) → Sought t i end label at → at < end → (at < tree_count t) × (at < index_after t at) × (index_after t at ≤ end)
+pub sought_inside : (t : Tree) (i end : ℕ) (label : List ℕ) (at : ℕ) → Sought t i end label at → at < end
+    → (at < tree_count t) × (at < index_after t at) × (index_after t at ≤ end)
 sought_inside t i end label at h l = let m = chain_more t end at h.rest h.chain l in (m.2.1.1.0, m.2.1.1.1.0, m.2.1.1.1.1.0)
 
--- what holds of each member of a list and of one more holds of all of them
-all-push : {X : Type 0} (P : X → Type 0) (xs : List X) (x : X) → AllByRecursion P xs → P x → AllByRecursion P (xs ++ x ∷ [])
-all-push P [] x h p = (p, tt)
-all-push P (y ∷ xs) x h p = (h.0, all-push P xs x h.1 p)
-
 -- a child without the label is passed
-pub sought_next : (t : Tree) (i end : ℕ) (label : List ℕ) (at next : ℕ) → Sought t i end label at → at < end → is_label label (any_label (box_at t at).box) ≡ false → next ≡ index_after t at → Sought t i end label next
+pub sought_next : (t : Tree) (i end : ℕ) (label : List ℕ) (at next : ℕ) → Sought t i end label at → at < end
+    → is_label label (any_label (box_at t at).box) ≡ false → next ≡ index_after t at → Sought t i end label next
 sought_next t i end label at next h l other e =
     let m = chain_more t end at h.rest h.chain l in
     record {
@@ -91,7 +98,7 @@ sought_next t i end label at next h l other e =
       rest = m.0;
       split = h.split ∙ ap (λ (x : List ℕ). h.before ++ x) m.1 ∙ sym (append_assoc h.before (at ∷ []) m.0);
       chain = subst (λ k. Chain t end k m.0) (sym e) m.2.1.1.1.1.1;
-      others = all-push (Unlabelled t label) h.before at h.others other;
+      others = each_push (Unlabelled t label) h.before at h.others other;
     }
 
 -- a label that passes as this one is this one
@@ -104,21 +111,29 @@ label_same : (label : List ℕ) (o : Option (List ℕ)) → o ≡ Some label →
 label_same label o e = ap (is_label label) e ∙ (bytes_eq-Decides label label).1 refl
 
 -- a child with the label is a child of the box, and has the label
-pub sought_here : (t : Tree) (i end : ℕ) (label : List ℕ) (at : ℕ) → Sought t i end label at → at < end → is_label label (any_label (box_at t at).box) ≡ true → Contains (child_indices t i) at × (any_label (box_at t at).box ≡ Some label)
+pub sought_here : (t : Tree) (i end : ℕ) (label : List ℕ) (at : ℕ) → Sought t i end label at → at < end
+    → is_label label (any_label (box_at t at).box) ≡ true
+    → Contains (child_indices t i) at × (any_label (box_at t at).box ≡ Some label)
 sought_here t i end label at h l same =
     let m = chain_more t end at h.rest h.chain l in
     let whole : child_indices t i ≡ h.before ++ at ∷ m.0 = h.split ∙ ap (λ (x : List ℕ). h.before ++ x) m.1 in
-    let n : length (child_indices t i) ≡ length h.before + suc (length m.0) = ap length whole ∙ length-append h.before (at ∷ m.0) in
+    let n : length (child_indices t i) ≡ length h.before + suc (length m.0) =
+    ap length whole ∙ length-append h.before (at ∷ m.0) in
     ((length h.before, omega (arith, n), ap (λ (x : List ℕ). get_or x (length h.before) at) whole ∙ get_or_at h.before at m.0 at (length h.before) refl), same_label label (any_label (box_at t at).box) same)
 
 -- none of the boxes that were passed has the label
-none_among : (t : Tree) (label : List ℕ) (xs : List ℕ) (n k : ℕ) → n < length xs → get_or xs n k ≡ k → AllByRecursion (Unlabelled t label) xs → any_label (box_at t k).box ≡ Some label → ⊥
+none_among : (t : Tree) (label : List ℕ) (xs : List ℕ) (n k : ℕ) → n < length xs → get_or xs n k ≡ k
+    → AllByRecursion (Unlabelled t label) xs → any_label (box_at t k).box ≡ Some label → ⊥
 none_among t label [] n k l e h same = omega (arith, l)
-none_among t label (x ∷ xs) zero k l e h same = both_ways _ (subst (Unlabelled t label) e h.0) (label_same label (any_label (box_at t k).box) same)
+none_among t label (x ∷ xs) zero k l e h same =
+    both_ways _ (subst (Unlabelled t label) e h.0) (label_same label (any_label (box_at t k).box) same)
 none_among t label (x ∷ xs) (suc n) k l e h same = none_among t label xs n k (omega arith) e h.1 same
 
 -- at the end no child has the label
-pub sought_none : (t : Tree) (i end : ℕ) (label : List ℕ) (at : ℕ) → Sought t i end label at → end ≤ at → (k : ℕ) → Contains (child_indices t i) k → any_label (box_at t k).box ≡ Some label → ⊥
+pub sought_none : (t : Tree) (i end : ℕ) (label : List ℕ) (at : ℕ) → Sought t i end label at → end ≤ at → (k : ℕ)
+    → Contains (child_indices t i) k → any_label (box_at t k).box ≡ Some label → ⊥
 sought_none t i end label at h out k among same =
-    let whole : child_indices t i ≡ h.before = h.split ∙ ap (λ (x : List ℕ). h.before ++ x) (chain_end t end at h.rest h.chain out) ∙ append-nil h.before in
-    none_among t label h.before among.0 k (omega (arith, among.1, ap length whole)) (ap (λ (x : List ℕ). get_or x among.0 k) (sym whole) ∙ among.2) h.others same
+    let whole : child_indices t i ≡ h.before =
+    h.split ∙ ap (λ (x : List ℕ). h.before ++ x) (chain_end t end at h.rest h.chain out) ∙ append-nil h.before in
+    none_among t label h.before among.0 k (omega (arith, among.1, ap length whole))
+    (ap (λ (x : List ℕ). get_or x among.0 k) (sym whole) ∙ among.2) h.others same

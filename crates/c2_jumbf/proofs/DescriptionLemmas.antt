@@ -41,10 +41,13 @@ super_box t i l h other = go (box_at t i).box refl
     go (node (leaf b)) is = absurd (other (alone (node (leaf b)) is refl))
     go (described d) is = absurd (other (alone (described d) is refl))
     go (node (super wide d us)) is =
-        let there : drop i (boxes_of t) ≡ inner_boxes (box_at t i).index (box_at t i).place (box_at t i).depth (node (super wide d us)) ++ s.0 = s.1 ∙ ap (λ b. inner_boxes (box_at t i).index (box_at t i).place (box_at t i).depth b ++ s.0) is in
+        let there : drop i (boxes_of t) ≡ inner_boxes (box_at t i).index (box_at t i).place (box_at t i).depth (node (super wide d us)) ++ s.0 =
+        s.1 ∙ ap (λ b. inner_boxes (box_at t i).index (box_at t i).place (box_at t i).depth b ++ s.0) is in
         let first : IndexedBox = record { index = 0; place = 0; depth = 1; box = node t } in
-        let second : get_or (boxes_of t) (i + 1) first ≡ get_or (drop i (boxes_of t)) 1 first = sym (get_or-drop i (boxes_of t) 1 first) in
-        let size : length (boxes_of t) - i ≡ length (inner_boxes (box_at t i).index (box_at t i).place (box_at t i).depth (node (super wide d us)) ++ s.0) = sym (length-drop i (boxes_of t)) ∙ ap length there in
+        let second : get_or (boxes_of t) (i + 1) first ≡ get_or (drop i (boxes_of t)) 1 first =
+        sym (get_or-drop i (boxes_of t) 1 first) in
+        let size : length (boxes_of t) - i ≡ length (inner_boxes (box_at t i).index (box_at t i).place (box_at t i).depth (node (super wide d us)) ++ s.0) =
+        sym (length-drop i (boxes_of t)) ∙ ap length there in
         record {
           description = d;
           own = ap any_description is;
@@ -54,8 +57,10 @@ super_box t i l h other = go (box_at t i).box refl
         }
 
 -- the contents of the next box are the payload of a superbox's description
-pub payload_here : (t : Tree) (i : ℕ) (payload : List ℕ) (s : IsSuper t i) → payload ≡ any_contents (box_at t (i + 1)).box → IsPayload (box_at t i).box payload
-payload_here t i payload s e = record { description = s.description; own = s.own; legal = s.legal; bytes = e ∙ ap any_contents s.next }
+pub payload_here : (t : Tree) (i : ℕ) (payload : List ℕ) (s : IsSuper t i)
+    → payload ≡ any_contents (box_at t (i + 1)).box → IsPayload (box_at t i).box payload
+payload_here t i payload s e =
+    record { description = s.description; own = s.own; legal = s.legal; bytes = e ∙ ap any_contents s.next }
 
 -- the type UUID
 no_uuid : (b : AnyBox) → any_description b ≡ None → any_uuid b ≡ None
@@ -77,13 +82,17 @@ some_uuid (node (super wide f us)) d e = let same : f ≡ d = cc (e) in ap (λ (
 pub payload_long : (b : AnyBox) (payload : List ℕ) → IsPayload b payload → 17 ≤ length payload
 payload_long b payload p =
     let d : Description = p.description in
-    let n : length payload ≡ length d.uuid + suc (length (label_bytes d.label ++ (fixed_bytes d.id ++ (fixed_bytes d.digest ++ private_bytes d.private)))) = ap length (p.bytes ∙ desc_split d) ∙ length-append d.uuid _ in
+    let n : length payload ≡ length d.uuid + suc (length (label_bytes d.label ++ (fixed_bytes d.id ++ (fixed_bytes d.digest ++ private_bytes d.private)))) =
+    ap length (p.bytes ∙ desc_split d) ∙ length-append d.uuid _ in
     omega (arith, n, p.legal.fields.uuid)
 
 -- the first 16 bytes of that payload are the type UUID
-pub uuid_here : (b : AnyBox) (payload uuid : List ℕ) → IsPayload b payload → uuid ≡ take 16 payload → Some uuid ≡ any_uuid b
+pub uuid_here : (b : AnyBox) (payload uuid : List ℕ) → IsPayload b payload → uuid ≡ take 16 payload
+    → Some uuid ≡ any_uuid b
 uuid_here b payload uuid p e =
-    ap Some (e ∙ sym (front_same payload p.description.uuid _ 16 p.legal.fields.uuid (p.bytes ∙ desc_split p.description))) ∙ sym (some_uuid b p.description p.own)
+    ap Some
+    (e ∙ sym (front_same payload p.description.uuid _ 16 p.legal.fields.uuid (p.bytes ∙ desc_split p.description)))
+    ∙ sym (some_uuid b p.description p.own)
 
 -- the label
 no_label : (b : AnyBox) → any_description b ≡ None → any_label b ≡ None
@@ -102,11 +111,14 @@ some_label (described f) d e = absurd (cc (e))
 some_label (node (super wide f us)) d e = let same : f ≡ d = cc (e) in ap (λ (x : Description). x.label) same
 
 -- the label that is read after the toggles is the box's label
-pub label_here : (b : AnyBox) (payload bytes rest : List ℕ) (label : Option (List ℕ)) → IsPayload b payload → bytes ≡ drop 17 payload → IsLabelPart (is_set 2 payload) bytes label rest → label ≡ any_label b
+pub label_here : (b : AnyBox) (payload bytes rest : List ℕ) (label : Option (List ℕ)) → IsPayload b payload
+    → bytes ≡ drop 17 payload → IsLabelPart (is_set 2 payload) bytes label rest → label ≡ any_label b
 label_here b payload bytes rest label p from q =
     (label_once (is_set 2 payload) (drop 17 payload) label p.description.label rest _ (subst (λ (x : List ℕ). IsLabelPart (is_set 2 payload) x label rest) from q) (own_label payload p.description p.legal.fields p.bytes)).0
     ∙ sym (some_label b p.description p.own)
 
 -- the label field of a legal description has no fault
-pub label_not_bad : (b : AnyBox) (payload bytes : List ℕ) → IsPayload b payload → bytes ≡ drop 17 payload → is_set 2 payload ≡ true → LabelFault bytes → ⊥
-label_not_bad b payload bytes p from is_on f = no_fields payload (DescriptionFault.bad_label is_on (subst LabelFault from f)) p.description p.legal.fields p.bytes
+pub label_not_bad : (b : AnyBox) (payload bytes : List ℕ) → IsPayload b payload → bytes ≡ drop 17 payload
+    → is_set 2 payload ≡ true → LabelFault bytes → ⊥
+label_not_bad b payload bytes p from is_on f =
+    no_fields payload (DescriptionFault.bad_label is_on (subst LabelFault from f)) p.description p.legal.fields p.bytes

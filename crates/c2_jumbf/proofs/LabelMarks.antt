@@ -33,11 +33,6 @@ given_new t [] h = tt
 given_new t (None ∷ os) h = given_new t os h.1
 given_new t (Some u ∷ os) h = (λ e. h.0 (ap Some e), given_new t os h.1)
 
--- the first of the labels is new
-pub first_new : (o : Option (List ℕ)) → IsNewLabel o []
-first_new None = tt
-first_new (Some t) = tt
-
 -- ---- marks that stand for labels
 
 -- the label of a mark
@@ -53,19 +48,23 @@ pub record Stand (ms : List Mark) (os : List (Option (List ℕ))) (end : ℕ) : 
 
 -- without a mark no label was seen
 pub stand_none : (ms : List Mark) (end : ℕ) → ms ≡ [] → Stand ms [] end
-stand_none ms end e = subst (λ x. Stand x [] end) (sym e) (record { labels = refl; fronts = All-nil _; below = All-nil _; distinct = λ _. tt })
+stand_none ms end e =
+    subst (λ x. Stand x [] end) (sym e)
+    (record { labels = refl; fronts = All-nil _; below = All-nil _; distinct = λ _. tt })
 
 -- what comes before a place comes before a later one
 still_below : (ms : List Mark) (a b : ℕ) → a ≤ b → All (λ (m : Mark). m.2 < a) ms → All (λ (m : Mark). m.2 < b) ms
 still_below ms a b le h = λ k d l. omega (arith, h k d l, le)
 
 -- all marks have another label
-apart : (t : List ℕ) (ms : List Mark) → ((x : Mark) → Contains ms x → x.1 ≢ t) → AllByRecursion (λ u. u ≢ t) (map label_in ms)
+apart : (t : List ℕ) (ms : List Mark) → ((x : Mark) → Contains ms x → x.1 ≢ t)
+    → AllByRecursion (λ u. u ≢ t) (map label_in ms)
 apart t [] h = tt
 apart t (x ∷ xs) h = (h x (0, omega arith, refl), apart t xs (λ y c. h y (Contains-append_right (x ∷ []) xs y c)))
 
 -- marks whose labels all differ from one each have another label
-kept_apart : (t : List ℕ) (ms : List Mark) → AllByRecursion (λ u. u ≢ t) (map label_in ms) → AllByRecursion (λ (m : Mark). m.1 ≢ t) ms
+kept_apart : (t : List ℕ) (ms : List Mark) → AllByRecursion (λ u. u ≢ t) (map label_in ms)
+    → AllByRecursion (λ (m : Mark). m.1 ≢ t) ms
 kept_apart t [] h = tt
 kept_apart t (x ∷ xs) h = (h.0, kept_apart t xs h.1)
 
@@ -87,10 +86,13 @@ module _ (ms : List Mark) (os : List (Option (List ℕ))) (place : ℕ) (s : Sta
 
     -- an earlier mark with the label would be repeated
     repeated : (x : Mark) → Contains ms x → x.1 ≡ t → Repeats x own
-    repeated x c e = (All-contains (λ (m : Mark). m.0 ≡ front_of m.1) ms x s.fronts c ∙ ap front_of e, e, All-contains (λ (m : Mark). m.2 < place) ms x s.below c)
+    repeated x c e =
+        (All-contains (λ (m : Mark). m.0 ≡ front_of m.1) ms x s.fronts c ∙ ap front_of e, e, All-contains (λ (m : Mark). m.2 < place) ms x s.below c)
 
     new_label : NoneRepeats more → IsNewLabel (Some t) os
-    new_label n = new_given t os (subst (AllByRecursion (λ u. u ≢ t)) s.labels (apart t ms (λ x c e. n x own (there x c) (Contains-push ms own) (repeated x c e))))
+    new_label n =
+        new_given t os
+        (subst (AllByRecursion (λ u. u ≢ t)) s.labels (apart t ms (λ x c e. n x own (there x c) (Contains-push ms own) (repeated x c e))))
 
     old_label : (x : Mark) → Contains ms x → x.1 ≡ t → IsNewLabel (Some t) os → ⊥
     old_label x c e new =
@@ -101,7 +103,8 @@ module _ (ms : List Mark) (os : List (Option (List ℕ))) (place : ℕ) (s : Sta
     not_itself x e r = omega (arith, r.2, ap (λ (m : Mark). m.2) e)
 
     -- the first repeated one is among the earlier marks, or is the new one
-    first_among : (P : ℕ → Type 0) (p : ℕ) → ((q : ℕ) → IsFirstRepeated ms q → P q) → (AreDistinctLabels os → (IsNewLabel (Some t) os → ⊥) → P place) → IsFirstRepeated more p → P p
+    first_among : (P : ℕ → Type 0) (p : ℕ) → ((q : ℕ) → IsFirstRepeated ms q → P q)
+        → (AreDistinctLabels os → (IsNewLabel (Some t) os → ⊥) → P place) → IsFirstRepeated more p → P p
     first_among P p before here f = by_later (Contains-push_cases ms own f.later f.has_later)
       where
         by_earlier : Contains ms f.later → Contains ms f.earlier ⊎ (own ≡ f.earlier) → P p
@@ -114,13 +117,16 @@ module _ (ms : List Mark) (os : List (Option (List ℕ))) (place : ℕ) (s : Sta
           is = f.is;
           first = λ x y c d r. f.first x y (there x c) (there y d) r;
         })
-        by_earlier cy (inr e) = absurd (omega (arith, f.repeats.2, All-contains (λ (m : Mark). m.2 < place) ms f.later s.below cy, ap (λ (m : Mark). m.2) e))
+        by_earlier cy (inr e) =
+            absurd
+            (omega (arith, f.repeats.2, All-contains (λ (m : Mark). m.2 < place) ms f.later s.below cy, ap (λ (m : Mark). m.2) e))
 
         last : own ≡ f.later → p ≡ place
         last e = f.is ∙ sym (ap (λ (m : Mark). m.2) e)
 
         none_earlier : own ≡ f.later → NoneRepeats ms
-        none_earlier e = λ x y c d r. omega (arith, f.first x y (there x c) (there y d) r, last e, All-contains (λ (m : Mark). m.2 < place) ms y s.below d)
+        none_earlier e =
+            λ x y c d r. omega (arith, f.first x y (there x c) (there y d) r, last e, All-contains (λ (m : Mark). m.2 < place) ms y s.below d)
 
         by_own : (e : own ≡ f.later) → Contains ms f.earlier ⊎ (own ≡ f.earlier) → P p
         by_own e (inl cx) =
@@ -140,7 +146,8 @@ module _ (ms : List Mark) (os : List (Option (List ℕ))) (place : ℕ) (s : Sta
   none_more (Some t) n = (s.distinct (none_before t n), new_label t n)
 
   -- with one more box, the first label that was there before is one of the others or the new one
-  pub first_more : (o : Option (List ℕ)) (P : ℕ → Type 0) (p : ℕ) → ((q : ℕ) → IsFirstRepeated ms q → P q) → (AreDistinctLabels os → (IsNewLabel o os → ⊥) → P place) → IsFirstRepeated (ms ++ own_marks place o) p → P p
+  pub first_more : (o : Option (List ℕ)) (P : ℕ → Type 0) (p : ℕ) → ((q : ℕ) → IsFirstRepeated ms q → P q)
+      → (AreDistinctLabels os → (IsNewLabel o os → ⊥) → P place) → IsFirstRepeated (ms ++ own_marks place o) p → P p
   first_more None P p before here f = before p (subst (λ x. IsFirstRepeated x p) (append-nil ms) f)
   first_more (Some t) P p before here f = first_among t P p before here f
 
@@ -149,7 +156,9 @@ module _ (ms : List Mark) (os : List (Option (List ℕ))) (place : ℕ) (s : Sta
   stand_more None end l = record {
     labels = ap (map label_in) (append-nil ms) ∙ s.labels ∙ sym (given-none os);
     fronts = subst (All (λ (m : Mark). m.0 ≡ front_of m.1)) (sym (append-nil ms)) s.fronts;
-    below = subst (All (λ (m : Mark). m.2 < end)) (sym (append-nil ms)) (still_below ms place end (omega (arith, l)) s.below);
+    below =
+        subst (All (λ (m : Mark). m.2 < end)) (sym (append-nil ms))
+        (still_below ms place end (omega (arith, l)) s.below);
     distinct = λ n. let d = none_more None n in distinct-push os None d.0 d.1;
   }
   stand_more (Some t) end l = record {

@@ -1,17 +1,16 @@
 -- Labels that are sorted show the first that equals one before it.
-use Rattle.std.proofs.Common.{◌≡◌, ℕ, zero, suc, ◌+◌, ◌-◌, ◌<◌, ◌≤◌, Bool, true, false, ltb, min, List, [], ◌∷◌, length, get_or, Option, Some, None, Contains, IsPermutation, IsSorted, IsTrue, is_lt, refl, sym, ap, subst, ◌∙◌, ◌⊎◌, inl, inr, ltb-true, ltb-false, arith}
+use Rattle.std.proofs.Common.{◌≡◌, ℕ, zero, suc, ◌+◌, ◌-◌, ◌<◌, ◌≤◌, Bool, true, false, ltb, min, List, [], ◌∷◌, length, get_or, Option, Some, None, Contains, IsPermutation, IsSorted, is_lt, refl, sym, ap, subst, ◌∙◌, ◌⊎◌, inl, inr, ltb-true, ltb-false, arith}
 use denote.Ref.{Bor}
 use Rattle.std.specs.Ordering.{nat_cmp, ordering_then, ordering_reverse}
 use Rattle.std.specs.declared.cmp.Ordering.{Ordering}
-use Rattle.std.specs.declared.cmp.Ordering.TheVariants.{Less, Equal, Greater}
 use Rattle.std.specs.Cmp.{IsTotalOrder, IsStrictWeakOrder, then_total, on_total, tied_itself, ranks}
 use Rattle.std.specs.Cmp.Lexicographic.{slice_cmp}
 use Rattle.std.specs.FinMap.{nat_cmp-IsAntisymmetric, slice_cmp-IsAntisymmetric}
-use Rattle.std.specs.Ordering.{MatchOrdering}
 use Rattle.std.proofs.lemmas.Cmp.{nat_cmp_total, nat_list_cmp_total}
 use Rattle.std.proofs.lemmas.List.{get_or-map, get_or_default, length-map}
 use Rattle.std.proofs.lemmas.List.Sorted.{ranks_by, sorted_far, Contains-permutation, IsPermutation-sym, IsPermutation-map}
 use Rattle.c2_jumbf.specs.Labels.{Mark, marks, mark_cmp, mark_at, Repeats, RepeatsAt, LeastRepeated, lesser_of, NoneRepeats, IsFirstRepeated}
+use Rattle.c2_lemmas.proofs.Numbers.{lifted, lowered, squeezed, tied_first}
 
 -- ---- the order of marks
 
@@ -21,55 +20,39 @@ lt x y = is_lt (mark_cmp x y)
 
 -- the order of marks is total
 pub marks_total : IsTotalOrder mark_cmp
-marks_total = then_total (then_total (on_total (λ (m : Mark). m.0) nat_cmp_total) (on_total (λ (m : Mark). m.1) nat_list_cmp_total)) (on_total (λ (m : Mark). m.2) nat_cmp_total)
+marks_total =
+    then_total
+    (then_total (on_total (λ (m : Mark). m.0) nat_cmp_total) (on_total (λ (m : Mark). m.1) nat_list_cmp_total))
+    (on_total (λ (m : Mark). m.2) nat_cmp_total)
 
--- and it may be sorted by
+-- marks may be sorted by their order
 marks_weak : IsStrictWeakOrder lt
 marks_weak = ranks_by marks_total (λ (m : Mark). m)
 
--- what doesn't come before another number by their order is not less than it
-lifted : (o : Ordering) (m n : ℕ) → MatchOrdering o (m < n) (m ≡ n) (n < m) → is_lt o ≡ false → n ≤ m
-lifted Less m n h e = absurd cc
-lifted Equal m n h e = omega arith
-lifted Greater m n h e = omega arith
-
--- the same by the order of numbers
+-- a number that the order of numbers doesn't put before another isn't less than it
 not_less : (m n : ℕ) → is_lt (nat_cmp m n) ≡ false → n ≤ m
 not_less m n e = lifted (nat_cmp m n) m n (ranks m n) e
 
--- what is less than another number comes before it by their order
-lowered : (o : Ordering) (m n : ℕ) → MatchOrdering o (m < n) (m ≡ n) (n < m) → m < n → is_lt o ≡ true
-lowered Less m n h l = refl
-lowered Equal m n h l = let never : ⊥ = omega arith in absurd never
-lowered Greater m n h l = let never : ⊥ = omega arith in absurd never
-
--- the same by the order of numbers
+-- the order of numbers puts a lesser number first
 less : (m n : ℕ) → m < n → is_lt (nat_cmp m n) ≡ true
 less m n l = lowered (nat_cmp m n) m n (ranks m n) l
-
--- where two comparisons are equal, the third decides
-tied_first : (o p q : Ordering) → o ≡ Equal → p ≡ Equal → is_lt (ordering_then (ordering_then o p) q) ≡ is_lt q
-tied_first o p q e f = ap (λ x. is_lt (ordering_then (ordering_then x p) q)) e ∙ ap (λ x. is_lt (ordering_then x q)) f
 
 -- a label that repeats another comes after it
 repeats_less : (x y : Mark) → Repeats x y → lt x y ≡ true
 repeats_less x y r =
     tied_first (nat_cmp x.0 y.0) (slice_cmp nat_cmp x.1 y.1) (nat_cmp x.2 y.2)
-    (ap (nat_cmp x.0) (sym r.0) ∙ tied_itself nat_cmp_total x.0) (ap (slice_cmp nat_cmp x.1) (sym r.1) ∙ tied_itself nat_list_cmp_total x.1) ∙ less x.2 y.2 r.2
-
--- of three comparisons that decide neither way the first two are equal
-squeezed : (o p s t : Ordering) → is_lt (ordering_then (ordering_then o p) s) ≡ false → is_lt (ordering_then (ordering_then (ordering_reverse o) (ordering_reverse p)) t) ≡ false → (o ≡ Equal) × (p ≡ Equal) × (is_lt s ≡ false) × (is_lt t ≡ false)
-squeezed Less p s t e f = absurd cc
-squeezed Greater p s t e f = absurd cc
-squeezed Equal Less s t e f = absurd cc
-squeezed Equal Greater s t e f = absurd cc
-squeezed Equal Equal s t e f = (refl, refl, e, f)
+    (ap (nat_cmp x.0) (sym r.0) ∙ tied_itself nat_cmp_total x.0)
+    (ap (slice_cmp nat_cmp x.1) (sym r.1) ∙ tied_itself nat_list_cmp_total x.1)
+    ∙ less x.2 y.2 r.2
 
 -- what is between two marks of one label
-between : (a b c : Mark) → a.0 ≡ c.0 → a.1 ≡ c.1 → lt b a ≡ false → lt c b ≡ false → (a.0 ≡ b.0) × (a.1 ≡ b.1) × (a.2 ≤ b.2) × (b.2 ≤ c.2)
+between : (a b c : Mark) → a.0 ≡ c.0 → a.1 ≡ c.1 → lt b a ≡ false → lt c b ≡ false
+    → (a.0 ≡ b.0) × (a.1 ≡ b.1) × (a.2 ≤ b.2) × (b.2 ≤ c.2)
 between a b c e f p q =
-    let back0 : nat_cmp c.0 b.0 ≡ ordering_reverse (nat_cmp b.0 a.0) = ap (λ x. nat_cmp x b.0) (sym e) ∙ nat_cmp_total.antisymm a.0 b.0 in
-    let back1 : slice_cmp nat_cmp c.1 b.1 ≡ ordering_reverse (slice_cmp nat_cmp b.1 a.1) = ap (λ x. slice_cmp nat_cmp x b.1) (sym f) ∙ nat_list_cmp_total.antisymm a.1 b.1 in
+    let back0 : nat_cmp c.0 b.0 ≡ ordering_reverse (nat_cmp b.0 a.0) =
+    ap (λ x. nat_cmp x b.0) (sym e) ∙ nat_cmp_total.antisymm a.0 b.0 in
+    let back1 : slice_cmp nat_cmp c.1 b.1 ≡ ordering_reverse (slice_cmp nat_cmp b.1 a.1) =
+    ap (λ x. slice_cmp nat_cmp x b.1) (sym f) ∙ nat_list_cmp_total.antisymm a.1 b.1 in
     let q2 : is_lt (ordering_then (ordering_then (ordering_reverse (nat_cmp b.0 a.0)) (ordering_reverse (slice_cmp nat_cmp b.1 a.1))) (nat_cmp c.2 b.2)) ≡ false =
     ap (λ x. is_lt (ordering_then (ordering_then x (ordering_reverse (slice_cmp nat_cmp b.1 a.1))) (nat_cmp c.2 b.2))) (sym back0) ∙ ap (λ x. is_lt (ordering_then (ordering_then (nat_cmp c.0 b.0) x) (nat_cmp c.2 b.2))) (sym back1) ∙ q in
     let all = squeezed (nat_cmp b.0 a.0) (slice_cmp nat_cmp b.1 a.1) (nat_cmp b.2 a.2) (nat_cmp c.2 b.2) p q2 in
@@ -77,7 +60,8 @@ between a b c e f p q =
 
 module _ (ms : List Mark) (up : IsSorted mark_cmp ms) where
   -- two marks of one label have one between them that repeats the one before it
-  repeats_between : (n i j : ℕ) → j ≡ i + n → j < length ms → Repeats (mark_at ms i) (mark_at ms j) → (k : ℕ) × (suc k < length ms) × RepeatsAt ms k × ((mark_at ms (suc k)).2 ≤ (mark_at ms j).2)
+  repeats_between : (n i j : ℕ) → j ≡ i + n → j < length ms → Repeats (mark_at ms i) (mark_at ms j)
+      → (k : ℕ) × (suc k < length ms) × RepeatsAt ms k × ((mark_at ms (suc k)).2 ≤ (mark_at ms j).2)
   repeats_between zero i j e l r =
       let same : j ≡ i = omega (arith, e) in
       let rises : (mark_at ms i).2 < (mark_at ms i).2 = subst (λ x. (mark_at ms i).2 < (mark_at ms x).2) same r.2 in
@@ -112,16 +96,20 @@ module _ (ks ms : List Mark) (moved : IsPermutation ks ms) (up : IsSorted mark_c
       let m = Contains-permutation ks ms x moved c in
       (m.0, m.1, get_or_default ms m.0 (0, [], 0) x m.1 ∙ m.2)
 
-  -- and a label that is there was there before
+  -- a label that is among the sorted ones was there before
   was_there : (i : ℕ) → i < length ms → Contains ks (mark_at ms i)
-  was_there i l = Contains-permutation ms ks (mark_at ms i) (IsPermutation-sym ks ms moved) (i, l, get_or_default ms i (mark_at ms i) (0, [], 0) l)
+  was_there i l =
+      Contains-permutation ms ks (mark_at ms i) (IsPermutation-sym ks ms moved)
+      (i, l, get_or_default ms i (mark_at ms i) (0, [], 0) l)
 
   -- a label that repeats another shows beside the one before it
-  shows : (x y : Mark) → Contains ks x → Contains ks y → Repeats x y → (k : ℕ) × (suc k < length ms) × RepeatsAt ms k × ((mark_at ms (suc k)).2 ≤ y.2)
+  shows : (x y : Mark) → Contains ks x → Contains ks y → Repeats x y
+      → (k : ℕ) × (suc k < length ms) × RepeatsAt ms k × ((mark_at ms (suc k)).2 ≤ y.2)
   shows x y cx cy r =
       let a = sorted_at x cx in
       let b = sorted_at y cy in
-      let there : Repeats (mark_at ms a.0) (mark_at ms b.0) = subst (λ u. Repeats u (mark_at ms b.0)) (sym a.2) (subst (Repeats x) (sym b.2) r) in
+      let there : Repeats (mark_at ms a.0) (mark_at ms b.0) =
+      subst (λ u. Repeats u (mark_at ms b.0)) (sym a.2) (subst (Repeats x) (sym b.2) r) in
       let far = comes_later ms up a.0 b.0 a.1 b.1 there in
       let k = repeats_between ms up (b.0 - a.0) a.0 b.0 (omega (arith, far)) b.1 there in
       (k.0, k.1, k.2, omega (arith, k.3, ap (λ u. u.2) b.2))
@@ -139,7 +127,7 @@ module _ (ks ms : List Mark) (moved : IsPermutation ks ms) (up : IsSorted mark_c
     first = λ x y cx cy r. let k = shows x y cx cy r in omega (arith, h.1 k.0 k.1 k.2, k.3);
   }
 
--- ---- the same of labels that are borrowed
+-- ---- labels that are borrowed
 
 -- a mark as the code keeps it, with its label borrowed
 abbrev pub Lent : Type 0
@@ -169,7 +157,8 @@ mark_of ms i d l = sym (get_or-map seen_as ms i d (0, [], 0) l)
 -- ---- one more mark
 
 -- with one more place that repeats nothing, the least place stays
-pub least_skip : (ms : List Mark) (m n : ℕ) (r : Option ℕ) → n ≡ m + 1 → (RepeatsAt ms m → ⊥) → LeastRepeated ms n r → LeastRepeated ms (n + 1) r
+pub least_skip : (ms : List Mark) (m n : ℕ) (r : Option ℕ) → n ≡ m + 1 → (RepeatsAt ms m → ⊥) → LeastRepeated ms n r
+    → LeastRepeated ms (n + 1) r
 least_skip ms m n None e not h = λ i l r. elim (ltb (suc i) n) as (λ b. ltb (suc i) n ≡ b → ⊥) [
   | true ↦ λ t. h i (ltb-true (suc i) n t) r
   | false ↦ λ t. let same : i ≡ m = omega (arith, e, l, ltb-false (suc i) n t) in not (subst (RepeatsAt ms) same r)
@@ -183,7 +172,8 @@ least_skip ms m n (Some k) e not h = (
 )
 
 -- with one more place that repeats the one before, the least place is the lesser of the two
-pub least_take : (ms : List Mark) (m n : ℕ) (r : Option ℕ) (k : ℕ) → n ≡ m + 1 → RepeatsAt ms m → k ≡ (mark_at ms (suc m)).2 → LeastRepeated ms n r → LeastRepeated ms (n + 1) (Some (lesser_of r k))
+pub least_take : (ms : List Mark) (m n : ℕ) (r : Option ℕ) (k : ℕ) → n ≡ m + 1 → RepeatsAt ms m
+    → k ≡ (mark_at ms (suc m)).2 → LeastRepeated ms n r → LeastRepeated ms (n + 1) (Some (lesser_of r k))
 least_take ms m n None k e here is h = (
   (m, omega (arith, e), here, is),
   λ i l r. elim (ltb (suc i) n) as (λ b. ltb (suc i) n ≡ b → k ≤ (mark_at ms (suc i)).2) [
@@ -205,14 +195,6 @@ least_take ms m n (Some j) k e here is h =
 
 -- ---- what the code does
 
--- what a test says where it passes
-pub said : (b : Bool) (P : Type 0) → (IsTrue b → P) → b ≡ true → P
-said b P f e = f e
-
--- what a test says where it fails
-pub unsaid : (b : Bool) (P : Type 0) → (P → IsTrue b) → b ≡ false → P → ⊥
-unsaid b P f e p = let clash : true ≡ false = sym (f p) ∙ e in cc
-
 module _ (ks : List Lent) (n : ℕ) (d : Lent) (r : Option ℕ) (lo : 1 ≤ n) (hi : n < length ks) where
   -- the place before this one is one less
   one_on : n ≡ suc (n - 1)
@@ -227,17 +209,26 @@ module _ (ks : List Lent) (n : ℕ) (d : Lent) (r : Option ℕ) (lo : 1 ≤ n) (
   here_y = mark_of ks n d hi ∙ ap (mark_at (marks ks)) one_on
 
   -- a borrowed mark that repeats the one before makes the least place the lesser of the two
-  pub lent_take : (k : ℕ) → Repeats (seen_as (get_or ks (n - 1) d)) (seen_as (get_or ks n d)) → k ≡ (get_or ks n d).2 → LeastRepeated (marks ks) n r → LeastRepeated (marks ks) (n + 1) (Some (lesser_of r k))
+  pub lent_take : (k : ℕ) → Repeats (seen_as (get_or ks (n - 1) d)) (seen_as (get_or ks n d)) → k ≡ (get_or ks n d).2
+      → LeastRepeated (marks ks) n r → LeastRepeated (marks ks) (n + 1) (Some (lesser_of r k))
   lent_take k rep e h =
-      least_take (marks ks) (n - 1) n r k (omega (arith, lo)) (subst (λ m. Repeats (mark_at (marks ks) (n - 1)) m) here_y (subst (λ m. Repeats m (seen_as (get_or ks n d))) here_x rep)) (e ∙ ap (λ m. m.2) here_y) h
+      least_take (marks ks) (n - 1) n r k (omega (arith, lo))
+      (subst (λ m. Repeats (mark_at (marks ks) (n - 1)) m) here_y (subst (λ m. Repeats m (seen_as (get_or ks n d))) here_x rep))
+      (e ∙ ap (λ m. m.2) here_y) h
 
   -- a borrowed mark that repeats nothing leaves the least place
-  pub lent_skip : (Repeats (seen_as (get_or ks (n - 1) d)) (seen_as (get_or ks n d)) → ⊥) → LeastRepeated (marks ks) n r → LeastRepeated (marks ks) (n + 1) r
+  pub lent_skip : (Repeats (seen_as (get_or ks (n - 1) d)) (seen_as (get_or ks n d)) → ⊥) → LeastRepeated (marks ks) n r
+      → LeastRepeated (marks ks) (n + 1) r
   lent_skip not h =
-      least_skip (marks ks) (n - 1) n r (omega (arith, lo)) (λ rep. not (subst (λ m. Repeats m (seen_as (get_or ks n d))) (sym here_x) (subst (λ m. Repeats (mark_at (marks ks) (n - 1)) m) (sym here_y) rep))) h
+      least_skip (marks ks) (n - 1) n r (omega (arith, lo))
+      (λ rep. not (subst (λ m. Repeats m (seen_as (get_or ks n d))) (sym here_x) (subst (λ m. Repeats (mark_at (marks ks) (n - 1)) m) (sym here_y) rep)))
+      h
 
 -- what the code finds among the sorted labels is said of the labels
-pub sorted_settles : (keys ks s : List Lent) (r : Option ℕ) → IsPermutation keys ks → IsSorted lent_cmp ks → s ≡ ks → LeastRepeated (marks s) (length s) r → Settles (marks keys) r
+pub sorted_settles : (keys ks s : List Lent) (r : Option ℕ) → IsPermutation keys ks → IsSorted lent_cmp ks → s ≡ ks
+    → LeastRepeated (marks s) (length s) r → Settles (marks keys) r
 sorted_settles keys ks s r moved up same h =
-    let here : LeastRepeated (marks ks) (length (marks ks)) r = subst (λ n. LeastRepeated (marks ks) n r) (sym (length-map ks seen_as)) (subst (λ l. LeastRepeated (marks l) (length l) r) same h) in
+    let here : LeastRepeated (marks ks) (length (marks ks)) r =
+    subst (λ n. LeastRepeated (marks ks) n r) (sym (length-map ks seen_as))
+    (subst (λ l. LeastRepeated (marks l) (length l) r) same h) in
     settles (marks keys) (marks ks) (IsPermutation-map seen_as keys ks moved) (lent_sorted ks up) r here

@@ -17,7 +17,7 @@ row_of b = record { place = b.place; total = length (any_bytes b.box); after = b
 abbrev pub rows : ℕ → ℕ → ℕ → Tree → List Row
 rows at depth i t = map row_of (boxes_from at depth i t)
 
--- the same of trees side by side
+-- the records of trees side by side at a place, a depth and an index, and of their descendants
 abbrev pub rows_all : ℕ → ℕ → ℕ → Trees → List Row
 rows_all at depth i ts = map row_of (boxes_from_all at depth i ts)
 

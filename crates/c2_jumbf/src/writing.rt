@@ -21,7 +21,7 @@ const LABELLED: u8 = 0x03;
 pub fn write(alloc: Global, tree: &Tree<'_>) -> Result<Blob, NoMemory>
     ensures written { IfOk result (λ bytes. bytes ≡ tree_bytes tree.now) }
 
-    // So reading them gives the tree again.
+    // Reading the bytes gives the tree again.
     ensures again { IfOk result (λ bytes. SpellsTree bytes tree.now) }
 {
     Blob::copied(alloc, tree.bytes)

@@ -10,7 +10,7 @@ use Rattle.c2_label_index.specs.declared.places.Places.{Places}
 abbrev pub kept_place : Places → List ℕ → Option ℕ
 kept_place p label = get_by (λ k. slice_cmp nat_cmp label k.now) p.first
 
--- of each label the first place among these is kept, and of others none
+-- the first place of each of these labels is kept, and none of another label
 abbrev pub ArePlaces : List (Option (List ℕ)) → Places → Type 0
 ArePlaces labels p =
     (label : List ℕ) → kept_place p label ≡ position (λ o. is_given o label) labels

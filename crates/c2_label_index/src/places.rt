@@ -13,7 +13,7 @@ pub struct Places<'t> {
     pub first: BTreeMap<&'t str, usize>,
 }
 
-/// Those of no labels.
+/// The index of no labels.
 pub fn no_places<'t>(alloc: Global) -> Places<'t>
     ensures { ArePlaces [] result }
 {

@@ -1,7 +1,7 @@
 -- What goes into a new store, by a definition and what is carried: its assertions and its claim, its length, and that there is room for
 -- each box where the store isn't too large.
 use Rattle.std.proofs.Common.{◌≡◌, ℕ, ◌+◌, ◌≤◌, true, inl, inr, List, [], ◌∷◌, ◌++◌, length, map, replicate, refl, sym, ap, ◌∙◌, subst, arith, codes, append_assoc, length-append, lit<}
-use Rattle.std.specs.Prelude.{All, Result, Ok, Err, IfOk}
+use Rattle.std.specs.Prelude.{All}
 use Rattle.std.specs.List.{AllByRecursion}
 use Rattle.std.proofs.lemmas.List.{length-replicate}
 use Rattle.std.proofs.lemmas.List.Elements.{All-cons, All-head, All-nil, All-tail}
@@ -13,17 +13,18 @@ use Rattle.c2_claim.specs.Written.{claim_item}
 use Rattle.c2_definition.specs.DefinitionFile.{IsWellFormed, is_new_label}
 use Rattle.c2_definition.specs.declared.types.Definition.{Definition}
 use Rattle.c2_definition.specs.declared.types.NewAssertion.{NewAssertion}
-use Rattle.c2_new_store_spec.specs.Built.{HasDigestLen, StoreSizesAreSame, bound_len, no_digest}
-use Rattle.c2_new_store_spec.specs.FreshBoxes.{store_box}
-use Rattle.c2_new_store_spec.specs.Store.{Content, NewIngredient, assertion_box, assertion_boxes, claim_with, entry_of, ingredient_assertion, manifest_box, new_alg, new_assertions, new_claim, new_store}
-use Rattle.c2_new_store_spec.specs.Unbound.{IsKnownLabel}
-use Rattle.c2_new_store_spec.specs.Written.{IsIngredientLabel}
-use Rattle.c2_new_store_spec.proofs.Labels.{new_label, written_label}
+use Rattle.c2_new_file_spec.specs.Built.{HasDigestLen, StoreSizesAreSame, bound_len, no_digest}
+use Rattle.c2_new_file_spec.specs.FreshBoxes.{store_box}
+use Rattle.c2_new_file_spec.specs.Store.{Content, NewIngredient, assertion_box, assertion_boxes, claim_with, entry_of, ingredient_assertion, manifest_box, new_alg, new_assertions, new_claim, new_store}
+use Rattle.c2_new_file_spec.specs.Unbound.{IsKnownLabel}
+use Rattle.c2_new_file_spec.specs.Written.{IsIngredientLabel}
+use Rattle.c2_new_file_spec.proofs.Labels.{new_label, written_label}
 use Rattle.c2_layout.specs.Parts.{AreParts, CanBeBoxed, IsContent, parts_size}
 use Rattle.c2_layout.specs.declared.carried.Carried.{Carried}
 use Rattle.c2_layout.specs.declared.parts.NewParts.{NewParts}
 use Rattle.c2_layout.proofs.References.{ingredient_label}
-use Rattle.c2_layout.proofs.Sizes.{blank_len, both_boxes, content_size, sized_with}
+use Rattle.c2_layout.proofs.Sizes.{both_boxes, content_size, sized_with}
+use Rattle.c2_new_file_spec.proofs.BuiltLemmas.{no_digest_len}
 
 -- ---- the assertions and the claim
 
@@ -33,19 +34,25 @@ all_assertions d ingredients b = d.assertions ++ (ingredients ++ b ∷ [])
 
 -- the claim of a definition with references to these
 abbrev pub all_claim : (List ℕ → List ℕ) → Definition → List NewAssertion → NewAssertion → List ℕ
-all_claim hash d ingredients b = deterministic (claim_item (claim_with d (map (entry_of hash) (all_assertions d ingredients b))))
+all_claim hash d ingredients b =
+    deterministic (claim_item (claim_with d (map (entry_of hash) (all_assertions d ingredients b))))
 
 -- the assertions of the new manifest are these
-content_all : (hash : List ℕ → List ℕ) (d : Definition) (k : Carried) (c : Content) (b : NewAssertion) → IsContent hash d k c → new_assertions hash c b ≡ all_assertions d k.ingredients.items b
+content_all : (hash : List ℕ → List ℕ) (d : Definition) (k : Carried) (c : Content) (b : NewAssertion)
+    → IsContent hash d k c → new_assertions hash c b ≡ all_assertions d k.ingredients.items b
 content_all hash d k c b is =
     ap (λ (x : Definition). x.assertions ++ (map (ingredient_assertion hash) c.ingredients ++ b ∷ [])) is.definition
     ∙ ap (λ (all : List NewAssertion). d.assertions ++ (all ++ b ∷ [])) (sym is.assertions)
 
 -- what was made of them are the parts of the new store
-pub content_parts : (hash : List ℕ → List ℕ) (d : Definition) (k : Carried) (c : Content) (b : NewAssertion) (more : List NewAssertion) → more ≡ k.ingredients.items → IsContent hash d k c → (p : NewParts)
-    → p.boxes ≡ trees_bytes (assertion_boxes (all_assertions d more b)) → p.claim ≡ all_claim hash d more b → AreParts hash c b p
+pub content_parts :
+    (hash : List ℕ → List ℕ) (d : Definition) (k : Carried) (c : Content) (b : NewAssertion) (more : List NewAssertion)
+    → more ≡ k.ingredients.items → IsContent hash d k c → (p : NewParts)
+    → p.boxes ≡ trees_bytes (assertion_boxes (all_assertions d more b)) → p.claim ≡ all_claim hash d more b
+    → AreParts hash c b p
 content_parts hash d k c b more given is p boxes claim =
-    let all : all_assertions d more b ≡ new_assertions hash c b = ap (λ (as_ : List NewAssertion). all_assertions d as_ b) given ∙ sym (content_all hash d k c b is) in
+    let all : all_assertions d more b ≡ new_assertions hash c b =
+    ap (λ (as_ : List NewAssertion). all_assertions d as_ b) given ∙ sym (content_all hash d k c b is) in
     record {
       boxes = boxes ∙ ap (λ (as_ : List NewAssertion). trees_bytes (assertion_boxes as_)) all;
       claim = claim ∙ ap (λ (as_ : List NewAssertion). deterministic (claim_item (claim_with d (map (entry_of hash) as_)))) all
@@ -54,12 +61,15 @@ content_parts hash d k c b more given is p boxes claim =
 
 -- ---- the length
 
--- its digests have the length of those of its definition
-own_digests : (hash : List ℕ → List ℕ) (d : Definition) (k : Carried) (c : Content) → IsContent hash d k c → HasDigestLen (new_alg c.definition) hash
+-- the digests of a content have the length of those of its definition
+own_digests : (hash : List ℕ → List ℕ) (d : Definition) (k : Carried) (c : Content) → IsContent hash d k c
+    → HasDigestLen (new_alg c.definition) hash
 own_digests hash d k c is = subst (λ (x : Definition). HasDigestLen (new_alg x) hash) (sym is.definition) is.digests
 
 -- the parts of a new store are as long as was told
-pub parts_long : StoreSizesAreSame → (hash : List ℕ → List ℕ) (d : Definition) (k : Carried) (c : Content) (b : NewAssertion) → IsContent hash d k c → (p : NewParts) → AreParts hash c b p
+pub parts_long : StoreSizesAreSame
+    → (hash : List ℕ → List ℕ) (d : Definition) (k : Carried) (c : Content) (b : NewAssertion) → IsContent hash d k c
+    → (p : NewParts) → AreParts hash c b p
     → length k.boxes + parts_size d.label p d.reserve ≡ bound_len c b d.reserve
 parts_long same hash d k c b is p are =
     let size = sized_with same hash c b d.reserve (own_digests hash d k c is) in
@@ -86,17 +96,23 @@ defined d more c = record { definition = with_more d more; carried = c.carried; 
 
 -- the store of these assertions
 abbrev store_over : (List ℕ → List ℕ) → Content → List ℕ → Definition → List NewAssertion → Tree
-store_over hash c message d all = store_box c.carried (manifest_box d.label all (deterministic (claim_item (claim_with d (map (entry_of hash) all)))) message)
+store_over hash c message d all =
+    store_box c.carried
+    (manifest_box d.label all (deterministic (claim_item (claim_with d (map (entry_of hash) all)))) message)
 
 -- where the assertions of the ingredients stand in the definition, the store is the same
-same_store : (hash : List ℕ → List ℕ) (d : Definition) (k : Carried) (c : Content) (b : NewAssertion) (message : List ℕ) → IsContent hash d k c
+same_store : (hash : List ℕ → List ℕ) (d : Definition) (k : Carried) (c : Content) (b : NewAssertion) (message : List ℕ)
+    → IsContent hash d k c
     → new_store hash c b message ≡ new_store hash (defined d k.ingredients.items c) b message
 same_store hash d k c b message is =
     ap (λ (x : Definition). store_over hash c message x (new_assertions hash c b)) is.definition
-    ∙ ap (store_over hash c message d) (content_all hash d k c b is ∙ sym (append_assoc d.assertions k.ingredients.items (b ∷ [])))
+    ∙ ap (store_over hash c message d)
+    (content_all hash d k c b is ∙ sym (append_assoc d.assertions k.ingredients.items (b ∷ [])))
 
 -- what the length of the new store is reckoned as
-pub reckoned_size : StoreSizesAreSame → (hash : List ℕ → List ℕ) (d : Definition) (k : Carried) (c : Content) (b : NewAssertion) (reserve : ℕ) → IsContent hash d k c
+pub reckoned_size : StoreSizesAreSame
+    → (hash : List ℕ → List ℕ) (d : Definition) (k : Carried) (c : Content) (b : NewAssertion) (reserve : ℕ)
+    → IsContent hash d k c
     → bound_len c b reserve
     ≡ length (trees_bytes c.carried)
     + (232 + length d.label + (length (trees_bytes (assertion_boxes d.assertions)) + length (trees_bytes (assertion_boxes (k.ingredients.items ++ b ∷ [])))) + length (all_claim (no_digest (new_alg d)) d k.ingredients.items b) + reserve)
@@ -104,16 +120,19 @@ reckoned_size same hash d k c b reserve is =
     let more : List NewAssertion = k.ingredients.items in
     let blank : List ℕ → List ℕ = no_digest (new_alg d) in
     let message : List ℕ = replicate reserve 0 in
-    let all : new_assertions blank (defined d more c) b ≡ all_assertions d more b = append_assoc d.assertions more (b ∷ []) in
+    let all : new_assertions blank (defined d more c) b ≡ all_assertions d more b =
+    append_assoc d.assertions more (b ∷ []) in
     let long : bound_len c b reserve ≡ length (tree_bytes (new_store blank (defined d more c) b message)) =
-    same (no_digest (new_alg c.definition)) hash c b b message message (blank_len (new_alg c.definition)) (own_digests hash d k c is) refl refl refl
+    same (no_digest (new_alg c.definition)) hash c b b message message (no_digest_len (new_alg c.definition))
+    (own_digests hash d k c is) refl refl refl
     ∙ ap (λ (t : Tree). length (tree_bytes t)) (same_store hash d k c b message is)
-    ∙ same hash blank (defined d more c) b b message message is.digests (blank_len (new_alg d)) refl refl refl in
+    ∙ same hash blank (defined d more c) b b message message is.digests (no_digest_len (new_alg d)) refl refl refl in
     let boxes : length (trees_bytes (assertion_boxes (new_assertions blank (defined d more c) b))) ≡ length (trees_bytes (assertion_boxes (all_assertions d more b))) =
     ap (λ (as_ : List NewAssertion). length (trees_bytes (assertion_boxes as_))) all in
     let claim : length (new_claim blank (defined d more c) b) ≡ length (all_claim blank d more b) =
     ap (λ (as_ : List NewAssertion). length (deterministic (claim_item (claim_with d (map (entry_of blank) as_))))) all in
-    omega (arith, long, content_size blank (defined d more c) b message, length-replicate {A = ℕ} reserve 0, boxes, claim, both_boxes d.assertions (more ++ b ∷ []))
+    omega
+    (arith, long, content_size blank (defined d more c) b message, length-replicate {A = ℕ} reserve 0, boxes, claim, both_boxes d.assertions (more ++ b ∷ []))
 
 -- ---- what can be boxed
 
@@ -122,21 +141,31 @@ abbrev HasWrittenLabel : NewAssertion → Type 0
 HasWrittenLabel a = IsWrittenLabel a.label
 
 -- assertions whose labels may be written and whose boxes aren't too large together
-each_boxed : (all : List NewAssertion) → All HasWrittenLabel all → length (trees_bytes (assertion_boxes all)) ≤ MAX_STORE_LEN → All CanBeBoxed all
+each_boxed : (all : List NewAssertion) → All HasWrittenLabel all
+    → length (trees_bytes (assertion_boxes all)) ≤ MAX_STORE_LEN → All CanBeBoxed all
 each_boxed [] h small = All-nil CanBeBoxed
 each_boxed (a ∷ others) h small =
-    let both : length (trees_bytes (assertion_boxes (a ∷ others))) ≡ length (tree_bytes (assertion_box a)) + length (trees_bytes (assertion_boxes others)) = length-append (tree_bytes (assertion_box a)) (trees_bytes (assertion_boxes others)) in
-    All-cons CanBeBoxed a others (record { label = All-head HasWrittenLabel a others h; small = omega (arith, both, small) }) (each_boxed others (All-tail HasWrittenLabel a others h) (omega (arith, both, small)))
+    let both : length (trees_bytes (assertion_boxes (a ∷ others))) ≡ length (tree_bytes (assertion_box a)) + length (trees_bytes (assertion_boxes others)) =
+    length-append (tree_bytes (assertion_box a)) (trees_bytes (assertion_boxes others)) in
+    All-cons CanBeBoxed a others
+    (record { label = All-head HasWrittenLabel a others h; small = omega (arith, both, small) })
+    (each_boxed others (All-tail HasWrittenLabel a others h) (omega (arith, both, small)))
 
 -- labels that a definition may have may be written
-new_written : (all : List NewAssertion) → AllByRecursion (λ (a : NewAssertion). is_new_label a.label ≡ true) all → All HasWrittenLabel all
+new_written : (all : List NewAssertion) → AllByRecursion (λ (a : NewAssertion). is_new_label a.label ≡ true) all
+    → All HasWrittenLabel all
 new_written [] h = All-nil HasWrittenLabel
-new_written (a ∷ others) h = All-cons HasWrittenLabel a others (written_label a.label (new_label a.label h.0).text) (new_written others h.1)
+new_written (a ∷ others) h =
+    All-cons HasWrittenLabel a others (written_label a.label (new_label a.label h.0).text) (new_written others h.1)
 
--- those of ingredients may
-ingredients_written : (hash : List ℕ → List ℕ) (gs : List NewIngredient) → AllByRecursion (λ (g : NewIngredient). IsIngredientLabel g.label) gs → All HasWrittenLabel (map (ingredient_assertion hash) gs)
+-- the labels of ingredients may be written
+ingredients_written : (hash : List ℕ → List ℕ) (gs : List NewIngredient)
+    → AllByRecursion (λ (g : NewIngredient). IsIngredientLabel g.label) gs
+    → All HasWrittenLabel (map (ingredient_assertion hash) gs)
 ingredients_written hash [] h = All-nil HasWrittenLabel
-ingredients_written hash (g ∷ gs) h = All-cons HasWrittenLabel (ingredient_assertion hash g) (map (ingredient_assertion hash) gs) (ingredient_label g.label h.0) (ingredients_written hash gs h.1)
+ingredients_written hash (g ∷ gs) h =
+    All-cons HasWrittenLabel (ingredient_assertion hash g) (map (ingredient_assertion hash) gs)
+    (ingredient_label g.label h.0) (ingredients_written hash gs h.1)
 
 -- the label of a binding to ranges can be written
 data_label : IsWrittenLabel (codes "c2pa.hash.data")
@@ -146,7 +175,7 @@ data_label = written_label (codes "c2pa.hash.data") (record { some = lit< tt; na
 bmff_label : IsWrittenLabel (codes "c2pa.hash.bmff.v2")
 bmff_label = written_label (codes "c2pa.hash.bmff.v2") (record { some = lit< tt; named = grind arith })
 
--- so a label of a kind that is known can
+-- a binding's label of a kind that is known can be written
 known_label : (l : List ℕ) → IsKnownLabel l → IsWrittenLabel l
 known_label l (inl e) = subst IsWrittenLabel (sym e) data_label
 known_label l (inr e) = subst IsWrittenLabel (sym e) bmff_label
@@ -158,14 +187,18 @@ pub record AreBoxed (d : Definition) (ingredients : List NewAssertion) (b : NewA
   pub last : CanBeBoxed b
 
 -- a store that isn't too large has room for all of them
-pub all_boxed : StoreSizesAreSame → (hash : List ℕ → List ℕ) (d : Definition) (k : Carried) (c : Content) (b : NewAssertion) → IsContent hash d k c → IsKnownLabel b.label → IsWellFormed d → bound_len c b d.reserve ≤ MAX_STORE_LEN
+pub all_boxed : StoreSizesAreSame
+    → (hash : List ℕ → List ℕ) (d : Definition) (k : Carried) (c : Content) (b : NewAssertion) → IsContent hash d k c
+    → IsKnownLabel b.label → IsWellFormed d → bound_len c b d.reserve ≤ MAX_STORE_LEN
     → AreBoxed d k.ingredients.items b
 all_boxed same hash d k c b is known formed small =
     let more : List NewAssertion = k.ingredients.items in
     let size = reckoned_size same hash d k c b d.reserve is in
     let own = both_boxes more (b ∷ []) in
-    let one : length (trees_bytes (assertion_boxes (b ∷ []))) ≡ length (tree_bytes (assertion_box b)) + 0 = length-append (tree_bytes (assertion_box b)) [] in
-    let labels : All HasWrittenLabel more = subst (All HasWrittenLabel) (sym is.assertions) (ingredients_written hash c.ingredients is.ingredients.labels) in
+    let one : length (trees_bytes (assertion_boxes (b ∷ []))) ≡ length (tree_bytes (assertion_box b)) + 0 =
+    length-append (tree_bytes (assertion_box b)) [] in
+    let labels : All HasWrittenLabel more =
+    subst (All HasWrittenLabel) (sym is.assertions) (ingredients_written hash c.ingredients is.ingredients.labels) in
     record {
       defined = each_boxed d.assertions (new_written d.assertions formed.labels) (omega (arith, size, small));
       more = each_boxed more labels (omega (arith, size, own, small));
@@ -173,8 +206,3 @@ all_boxed same hash d k c b is known formed small =
     }
 
 -- ---- answers
-
--- two clauses of one answer together
-pub both_ok : {T E : Type 0} (r : Result T E) (P Q R : T → Type 0) → ((x : T) → P x → Q x → R x) → IfOk r P → IfOk r Q → IfOk r R
-both_ok (Ok x) P Q R f p q = f x p q
-both_ok (Err e) P Q R f p q = tt

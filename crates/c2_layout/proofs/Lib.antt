@@ -1,8 +1,9 @@
-pub mod WrittenBytes
 pub mod AllBoxed
+pub mod ClaimFields
+pub mod Contents
+mod LegalClaims
 pub mod References
 pub mod Sizes
-pub mod Contents
-pub mod ClaimFields
+pub mod TheLaws
 pub mod UnwrittenLemmas
-mod LegalClaims
+pub mod WrittenBytes

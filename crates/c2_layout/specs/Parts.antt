@@ -5,9 +5,9 @@ use Rattle.c2_spec.specs.Jumbf.Tree.{tree_bytes, trees_bytes}
 use Rattle.c2_spec.specs.Jumbf.Writing.{IsWrittenLabel}
 use Rattle.c2_definition.specs.declared.types.NewAssertion.{NewAssertion}
 use Rattle.c2_definition.specs.declared.types.Definition.{Definition}
-use Rattle.c2_new_store_spec.specs.Built.{HasDigestLen, bound_len}
-use Rattle.c2_new_store_spec.specs.Store.{Content, NamedManifest, assertion_box, assertion_boxes, ingredient_assertion, new_alg, new_assertions, new_claim}
-use Rattle.c2_new_store_spec.specs.Written.{AreIngredients}
+use Rattle.c2_new_file_spec.specs.Built.{HasDigestLen, bound_len}
+use Rattle.c2_new_file_spec.specs.Store.{Content, NamedManifest, assertion_box, assertion_boxes, ingredient_assertion, new_alg, new_assertions, new_claim}
+use Rattle.c2_new_file_spec.specs.Written.{AreIngredients}
 use Rattle.c2_layout.specs.declared.carried.Carried.{Carried}
 use Rattle.c2_layout.specs.declared.carried.ManifestRefs.{ManifestRefs}
 use Rattle.c2_layout.specs.declared.parts.NewParts.{NewParts}

@@ -22,8 +22,8 @@ IsSuperboxRefused label len BadLabel = IsWrittenLabel label → ⊥
 IsSuperboxRefused label len (TooLarge n) =
     IsWrittenLabel label × (MAX_STORE_LEN < len) × (n ≡ min len (2 ^ 64 - 1))
 
--- of a superbox with one content box, which has so many bytes behind its header, the content box is refused, or else the superbox: its
--- label and 42 bytes are the headers of both, and the description
+-- Why a superbox with one content box is refused, which has so many bytes behind its header: the content box is, or else the superbox
+-- itself. Its label and 42 bytes are the headers of both, and the description.
 abbrev pub IsBoxRefused : List ℕ → ℕ → WriteError → Type 0
 IsBoxRefused label len e =
     IsContentRefused (8 + len) e
@@ -33,8 +33,8 @@ IsBoxRefused label len e =
 abbrev pub IsAssertionRefused : NewAssertion → WriteError → Type 0
 IsAssertionRefused a e = IsBoxRefused a.label (length a.bytes) e
 
--- of the box of a manifest its assertion store is refused, the box of its claim, that of its signed message, or it is itself; 49 bytes
--- are the header and the description of an assertion store
+-- Why the box of a manifest is refused: its assertion store is, the box of its claim, that of its signed message, or the box itself. 49
+-- bytes are the header and the description of an assertion store.
 abbrev pub IsManifestRefused : List ℕ → List ℕ → List ℕ → List ℕ → WriteError → Type 0
 IsManifestRefused label boxes claim message e =
     IsSuperboxRefused (codes "c2pa.assertions") (49 + length boxes) e

@@ -2,7 +2,7 @@
 ghost use Rattle.std.specs.Prelude.{◌≡◌, ◌++◌, ◌∷◌, [], IfOk, OnOk, All, map};
 ghost use Rattle.c2_spec.specs.Jumbf.Tree.{tree_bytes, trees_bytes};
 ghost use Rattle.c2_layout.specs.Parts.{CanBeBoxed};
-ghost use Rattle.c2_new_store_spec.specs.Store as store;
+ghost use Rattle.c2_new_file_spec.specs.Store as store;
 
 use crate::boxes::{only_memory, write_assertion};
 use crate::entries::own_ref;

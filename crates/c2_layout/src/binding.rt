@@ -3,7 +3,7 @@ ghost use Rattle.std.specs.Prelude.{◌≡◌, IfOk};
 ghost use Rattle.c2_spec.specs.Cbor.Deterministic.{deterministic};
 ghost use Rattle.c2_spec.specs.Cbor.Legal.{IsLegal};
 ghost use Rattle.c2_spec.specs.Cbor.View.{view};
-ghost use Rattle.c2_new_store_spec.specs.Store as store;
+ghost use Rattle.c2_new_file_spec.specs.Store as store;
 
 use c2_assertion::{DataHash, write_data_hash};
 use c2_base::{Blob, NoMemory, Range, Ranges, Text};

@@ -2,8 +2,8 @@
 ghost use Rattle.std.specs.Prelude.{◌≡◌, ◌⊎◌, IfOk, IfErr, Ok, length};
 ghost use Rattle.c2_spec.specs.C2pa.Manifest as manifest;
 ghost use Rattle.c2_spec.specs.Jumbf.Tree.{tree_bytes, more, none};
-ghost use Rattle.c2_new_store_spec.specs.FreshBoxes.{fresh_box, fresh_leaf};
-ghost use Rattle.c2_new_store_spec.specs.Store as store;
+ghost use Rattle.c2_new_file_spec.specs.FreshBoxes.{fresh_box, fresh_leaf};
+ghost use Rattle.c2_new_file_spec.specs.Store as store;
 ghost use Rattle.c2_layout.specs.Unwritten.{IsAssertionRefused, IsBoxRefused};
 
 use c2_base::{Blob, NoMemory};

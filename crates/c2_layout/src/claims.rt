@@ -2,7 +2,7 @@
 ghost use Rattle.std.specs.Prelude.{◌≡◌, IfOk};
 ghost use Rattle.c2_spec.specs.Cbor.Deterministic.{deterministic};
 ghost use Rattle.c2_claim.specs.Written.{claim_item};
-ghost use Rattle.c2_new_store_spec.specs.Store as store;
+ghost use Rattle.c2_new_file_spec.specs.Store as store;
 
 use c2_base::{Blob, NoMemory, Text, Texts};
 use c2_claim::{ClaimParts, write};

@@ -1,6 +1,6 @@
 // References of a claim to the assertions of its own manifest.
 ghost use Rattle.std.specs.Prelude.{◌≡◌, IfOk};
-ghost use Rattle.c2_new_store_spec.specs.Store as store;
+ghost use Rattle.c2_new_file_spec.specs.Store as store;
 
 use c2_base::{Blob, NoMemory, Text};
 use c2_spec::Ref;

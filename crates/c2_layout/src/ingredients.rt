@@ -2,7 +2,7 @@
 ghost use Rattle.std.specs.Prelude.{◌≡◌, ℕ, IfOk, List};
 ghost use Rattle.c2_spec.specs.C2pa.Uri.{signature, whole};
 ghost use Rattle.c2_layout.specs.Parts.{AreRefs, told};
-ghost use Rattle.c2_new_store_spec.specs.Store.{NamedManifest, ingredient_assertion, target_ref};
+ghost use Rattle.c2_new_file_spec.specs.Store.{NamedManifest, ingredient_assertion, target_ref};
 
 use crate::binding::item_bytes;
 use crate::carried::ManifestRefs;

@@ -4,7 +4,7 @@ ghost use Rattle.c2_spec.specs.Cbor.Legal.{IsLegal};
 ghost use Rattle.c2_spec.specs.Jumbf.Writing.{IsWrittenLabel};
 ghost use Rattle.c2_claim.specs.Written.{claim_item};
 ghost use Rattle.c2_claim.specs.declared.writing.ClaimParts.{ClaimParts as AnyParts};
-ghost use Rattle.c2_new_store_spec.specs.Written.{IsIngredientLabel};
+ghost use Rattle.c2_new_file_spec.specs.Written.{IsIngredientLabel};
 
 /// The item of a claim that is made of parts, whatever they are, is legal, so that nothing but memory fails where it is encoded.
 pub fn a_claim_of_parts_is_legal()

@@ -1,6 +1,6 @@
 //! What is written into a media file: the bytes and sizes of a new store.
 //!
-//! What the store is, and what holds of it and of the file that it is put into, stands in `c2_new_store_spec`. A manifest has the assertions of its
+//! What the store is, and what holds of it and of the file that it is put into, stands in `c2_new_file_spec`. A manifest has the assertions of its
 //! definition, then those of its ingredients, and then its binding.
 #![tactic(auto)]
 

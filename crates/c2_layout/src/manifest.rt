@@ -4,7 +4,7 @@ ghost use Rattle.c2_spec.specs.Jumbf.Tree.{tree_bytes, trees_bytes};
 ghost use Rattle.c2_definition.specs.declared.types.NewAssertion.{NewAssertion};
 ghost use Rattle.c2_layout.specs.Parts.{manifest_size};
 ghost use Rattle.c2_layout.specs.Unwritten.{IsManifestRefused};
-ghost use Rattle.c2_new_store_spec.specs.Store as store;
+ghost use Rattle.c2_new_file_spec.specs.Store as store;
 
 use crate::boxes::{type_uuid, write_one};
 use c2_base::{Blob, NoMemory};

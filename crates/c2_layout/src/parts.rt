@@ -4,11 +4,11 @@ ghost use Rattle.c2_spec.specs.Cbor.Deterministic.{deterministic};
 ghost use Rattle.c2_spec.specs.Jumbf.Tree.{trees_bytes};
 ghost use Rattle.c2_claim.specs.Written.{claim_item};
 ghost use Rattle.c2_definition.specs.DefinitionFile.{IsWellFormed};
-ghost use Rattle.c2_new_store_spec.specs.Built.{bound_len};
+ghost use Rattle.c2_new_file_spec.specs.Built.{bound_len};
 ghost use Rattle.c2_layout.specs.Parts.{AreParts, CanBeBound, CanBeBoxed, IsContent, parts_size};
-ghost use Rattle.c2_new_store_spec.specs.Store as store;
-ghost use Rattle.c2_new_store_spec.specs.Store.{Content};
-ghost use Rattle.c2_new_store_spec.specs.Unbound.{IsKnownBinding};
+ghost use Rattle.c2_new_file_spec.specs.Store as store;
+ghost use Rattle.c2_new_file_spec.specs.Store.{Content};
+ghost use Rattle.c2_new_file_spec.specs.Unbound.{IsKnownBinding};
 
 use crate::assertions::push_all;
 use crate::carried::Carried;
@@ -16,7 +16,6 @@ use crate::claims::claim_of;
 use c2_base::{Blob, NoMemory};
 use c2_definition::{Definition, NewAssertion};
 use c2_hash::Hashing;
-use c2_new_store_spec::new_stores_have_one_length;
 use std::alloc::Global;
 use std::slice::from_ref;
 
@@ -83,14 +82,12 @@ pub fn bound_parts<H: Hashing>(
         → IsContent (H.digest_of (store.new_alg definition.now)) definition.now carried.now c
         → AreParts (H.digest_of (store.new_alg definition.now)) c binding.now p) }
 
-    // So the store has the length that was told before.
+    // The store of these parts has the length that was reckoned before.
     ensures size { IfOk result (λ p. (c : Content)
         → IsContent (H.digest_of (store.new_alg definition.now)) definition.now carried.now c
         → length carried.now.boxes + parts_size definition.now.label p definition.now.reserve
         ≡ bound_len c binding.now definition.now.reserve) }
 {
-    // Only the prover needs this law.
-    new_stores_have_one_length();
     let ingredients = carried.ingredients.as_slice();
     parts_over(alloc, hashing, definition, ingredients, binding)
 }

@@ -4,11 +4,11 @@ ghost use Rattle.c2_spec.specs.declared.packets.TheConstants.{LEAST_STORE_LEN};
 ghost use Rattle.c2_spec.specs.Cbor.Deterministic.{deterministic};
 ghost use Rattle.c2_spec.specs.Jumbf.Tree.{trees_bytes};
 ghost use Rattle.c2_claim.specs.Written.{claim_item};
-ghost use Rattle.c2_new_store_spec.specs.Built as built;
-ghost use Rattle.c2_new_store_spec.specs.Built.{no_digest};
+ghost use Rattle.c2_new_file_spec.specs.Built as built;
+ghost use Rattle.c2_new_file_spec.specs.Built.{no_digest};
 ghost use Rattle.c2_layout.specs.Parts.{IsContent};
-ghost use Rattle.c2_new_store_spec.specs.Store as store;
-ghost use Rattle.c2_new_store_spec.specs.Store.{Content};
+ghost use Rattle.c2_new_file_spec.specs.Store as store;
+ghost use Rattle.c2_new_file_spec.specs.Store.{Content};
 
 use crate::carried::Carried;
 use crate::claims::claim_of;
@@ -16,7 +16,6 @@ use crate::entries::own_ref;
 use c2_base::NoMemory;
 use c2_definition::{Definition, NewAssertion};
 use c2_hash::{Alg, Digest};
-use c2_new_store_spec::new_stores_have_one_length;
 use c2_spec::Ref;
 use std::alloc::Global;
 use std::slice::from_ref;
@@ -101,8 +100,6 @@ pub fn bound_size(
         → n ≡ min (built.bound_len c binding.now definition.now.reserve) (2 ^ 64 - 1)) }
     ensures least { IfOk result (λ n. LEAST_STORE_LEN ≤ n) }
 {
-    // Only the prover needs this law.
-    new_stores_have_one_length();
     let ingredients = carried.ingredients.as_slice();
     let claim = claim_len(alloc, definition, ingredients, binding)?;
     let label = definition.label.as_str().len() as u64;

@@ -5,10 +5,10 @@ ghost use Rattle.c2_spec.specs.Jumbf.Tree.{Tree as AnyTree, Trees, tree_bytes, t
 ghost use Rattle.c2_spec.specs.Jumbf.Writing.{IsWrittenLabel};
 ghost use Rattle.c2_definition.specs.DefinitionFile.{IsWellFormed};
 ghost use Rattle.c2_definition.specs.declared.types.NewAssertion.{NewAssertion as AnyAssertion};
-ghost use Rattle.c2_new_store_spec.specs.FreshBoxes.{store_box};
+ghost use Rattle.c2_new_file_spec.specs.FreshBoxes.{store_box};
 ghost use Rattle.c2_layout.specs.Parts.{AreParts, IsContent, manifest_size, parts_size};
-ghost use Rattle.c2_new_store_spec.specs.Store as store;
-ghost use Rattle.c2_new_store_spec.specs.Store.{Content};
+ghost use Rattle.c2_new_file_spec.specs.Store as store;
+ghost use Rattle.c2_new_file_spec.specs.Store.{Content};
 
 use crate::boxes::only_memory;
 use crate::carried::Carried;

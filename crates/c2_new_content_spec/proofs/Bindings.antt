@@ -4,11 +4,11 @@ use Rattle.c2_spec.specs.C2pa.Assertion.{kind_of}
 use Rattle.c2_spec.specs.Jumbf.Tree.{IsLabel}
 use Rattle.c2_rules.specs.Rules.{is_binding}
 use Rattle.c2_definition.specs.declared.types.NewAssertion.{NewAssertion}
-use Rattle.c2_new_store_spec.specs.Unbound.{IsKnownBinding, IsKnownLabel}
-use Rattle.c2_new_store_spec.specs.Written.{IsNewBinding, IsText}
-use Rattle.c2_new_store_spec.proofs.BoxLemmas.{plain_label}
-use Rattle.c2_new_store_spec.proofs.Labels.{IsLabelText}
-use Rattle.c2_new_store_spec.proofs.Texts.{plain_text}
+use Rattle.c2_new_file_spec.specs.Unbound.{IsKnownBinding, IsKnownLabel}
+use Rattle.c2_new_file_spec.specs.Written.{IsNewBinding, IsText}
+use Rattle.c2_new_file_spec.proofs.BoxLemmas.{plain_label}
+use Rattle.c2_new_file_spec.proofs.Labels.{IsLabelText}
+use Rattle.c2_new_file_spec.proofs.Texts.{plain_text}
 
 -- what the label of a binding of a known kind is
 pub record IsBindingLabel (l : List ℕ) : Type 0 where
@@ -18,7 +18,8 @@ pub record IsBindingLabel (l : List ℕ) : Type 0 where
   pub text : IsText l
 
 -- what holds of both labels
-pub by_label : (P : List ℕ → Type 0) → P (codes "c2pa.hash.data") → P (codes "c2pa.hash.bmff.v2") → (l : List ℕ) → IsKnownLabel l → P l
+pub by_label : (P : List ℕ → Type 0) → P (codes "c2pa.hash.data") → P (codes "c2pa.hash.bmff.v2") → (l : List ℕ)
+    → IsKnownLabel l → P l
 by_label P d m l (inl e) = subst P (sym e) d
 by_label P d m l (inr e) = subst P (sym e) m
 
@@ -26,11 +27,11 @@ by_label P d m l (inr e) = subst P (sym e) m
 named_data : IsLabelText (codes "c2pa.hash.data")
 named_data = record { some = lit< tt; named = grind arith }
 
--- and the other
+-- the label of a BMFF hash is one of letters
 named_bmff : IsLabelText (codes "c2pa.hash.bmff.v2")
 named_bmff = record { some = lit< tt; named = grind arith }
 
--- so it is with each label of a binding
+-- each label of a binding is one of letters
 pub known_label : (l : List ℕ) → IsKnownLabel l → IsBindingLabel l
 known_label =
     by_label IsBindingLabel (record {

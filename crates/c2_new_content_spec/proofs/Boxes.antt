@@ -28,17 +28,16 @@ use Rattle.c2_rules.proofs.ListLemmas.{contains_cons, contains_head, contains_no
 use Rattle.c2_chain_spec.proofs.Places.{member_of}
 use Rattle.c2_definition.specs.declared.types.Definition.{Definition}
 use Rattle.c2_definition.specs.declared.types.NewAssertion.{NewAssertion}
-use Rattle.c2_new_store_spec.specs.Store.{Content, NewIngredient, ingredient_assertion, new_alg, new_assertions, target_ref, written_ingredient}
-use Rattle.c2_new_store_spec.specs.Unbound.{IsKnownLabel}
-use Rattle.c2_new_store_spec.specs.Written.{AreIngredients, IsIngredientLabel, LabelsApart, written_assertion}
-use Rattle.c2_new_store_spec.proofs.Conditions.{Holds, same_bytes}
-use Rattle.c2_new_store_spec.proofs.Ingredients.{AreLabelled, good_label}
-use Rattle.c2_new_store_spec.proofs.Labels.{IsLabelText, new_label}
-use Rattle.c2_new_store_spec.proofs.Lists.{each-append, each-back, each-front}
-use Rattle.c2_new_store_spec.proofs.WrittenStore.{IsNew, own_assertions}
-use Rattle.c2_parent_spec.specs.Less.{AreLess}
-use Rattle.c2_parent_spec.specs.Refusing.{new_claim_uri}
-use Rattle.c2_parent_spec.proofs.Places.{less_len}
+use Rattle.c2_new_file_spec.specs.Store.{Content, NewIngredient, ingredient_assertion, new_alg, new_assertions, target_ref, written_ingredient}
+use Rattle.c2_new_file_spec.specs.Unbound.{IsKnownLabel}
+use Rattle.c2_new_file_spec.specs.Written.{AreIngredients, IsIngredientLabel, LabelsApart, written_assertion}
+use Rattle.c2_new_file_spec.proofs.Conditions.{Holds}
+use Rattle.c2_new_file_spec.proofs.Ingredients.{AreLabelled, good_label}
+use Rattle.c2_new_file_spec.proofs.Labels.{IsLabelText, new_label}
+use Rattle.c2_new_file_spec.proofs.WrittenStore.{IsNew, own_assertions}
+use Rattle.c2_new_file_spec.specs.Less.{AreLess}
+use Rattle.c2_new_file_spec.specs.Refusing.{new_claim_uri}
+use Rattle.c2_new_file_spec.proofs.Places.{less_len}
 use Rattle.c2_new_content_spec.specs.Taken.{IsRoot}
 use Rattle.c2_new_content_spec.proofs.Bindings.{by_label}
 use Rattle.c2_new_content_spec.proofs.Items.{IsIngredient, ingredient_named, no_binding_reads, whole_named}
@@ -47,7 +46,8 @@ use Rattle.c2_new_content_spec.proofs.More.{get_front, place_more}
 use Rattle.c2_new_content_spec.proofs.NewRules.{IsListed, RestHolds, Said, bindings_of, new_box, new_boxes, new_reading, new_seen}
 use Rattle.c2_new_content_spec.proofs.Plain.{boxes_append, listed_each, no_bindings, no_children, no_forms, no_ingredient, none_child, none_parent, none_read}
 use Rattle.c2_new_content_spec.proofs.Roots.{HasRoots}
-use Rattle.c2_new_content_spec.proofs.Uris.{UrisAreRead}
+use Rattle.c2_lemmas.proofs.Each.{each_append, each_back, each_front, zip_append}
+use Rattle.c2_lemmas.proofs.Lists.{same_bytes}
 
 -- ---- what boxes are read as
 
@@ -149,18 +149,11 @@ split_boxes hash gs ds b h a k known =
 
 -- ---- they are read so
 
--- two pairs of lists in a row
-pub zip_append : {A B : Type 0} (R : A → B → Type 0) (xs us : List A) (ys vs : List B) → AllZip R xs ys → AllZip R us vs
-    → AllZip R (xs ++ us) (ys ++ vs)
-zip_append R [] us [] vs h k = k
-zip_append R [] us (y ∷ ys) vs h k = absurd h
-zip_append R (x ∷ xs) us [] vs h k = absurd h
-zip_append R (x ∷ xs) us (y ∷ ys) vs h k = (h.0, zip_append R xs us ys vs h.1 k)
-
 -- what the box of a new assertion is read as, whether or not its kind is that of an ingredient
 abbrev ReadsBy : (List ℕ → List ℕ) → List NewIngredient → NewAssertion → Bool → Type 0
 ReadsBy hash gs a b =
-    MatchBool b (IsParsed (ingredient_of (box_version (written_assertion a))) (written_assertion a).item (read_as hash gs a))
+    MatchBool b
+    (IsParsed (ingredient_of (box_version (written_assertion a))) (written_assertion a).item (read_as hash gs a))
     (read_as hash gs a ≡ NoItem)
 
 -- a box of another kind is read as none
@@ -180,7 +173,7 @@ plain_zip hash gs [] h k = tt
 plain_zip hash gs (a ∷ ds) h k =
     (none_is_read hash gs a h (no_ingredient (kind_of a.label) (new_label a.label k.0).kind), plain_zip hash gs ds h k.1)
 
--- and the binding
+-- the binding is read as its box
 pub binding_read : (hash : List ℕ → List ℕ) (gs : List NewIngredient) (b : NewAssertion) → AreLabelled gs
     → IsKnownLabel b.label → IsReadBox (written_assertion b) (new_box (read_as hash gs) b)
 binding_read hash gs b h known = none_is_read hash gs b h (no_binding_reads b.label known)
@@ -189,7 +182,7 @@ binding_read hash gs b h known = none_is_read hash gs b h (no_binding_reads b.la
 abbrev pub IsRead : (List ℕ → List ℕ) → NewIngredient → Type 0
 IsRead hash g = IsIngredient (ingredient_assertion hash g).bytes (written_ingredient hash g)
 
--- and the ingredients
+-- the ingredients are read as their boxes
 own_zip : (hash : List ℕ → List ℕ) (gs some : List NewIngredient) → AreLabelled some → LabelsApart gs
     → ((g : NewIngredient) → Contains some g → Contains gs g) → AllByRecursion (IsRead hash) some
     → AllZip IsReadBox (map written_assertion (map (ingredient_assertion hash) some)) (new_boxes (read_as hash gs) (map (ingredient_assertion hash) some))
@@ -207,7 +200,7 @@ own_zip hash gs (g ∷ some) h a in_all k = (
   own_zip hash gs some h.1 a (λ x c. in_all x (contains_tail g x some c)) k.1,
 )
 
--- so all are
+-- all assertions are read as their boxes
 pub boxes_zip : (hash : List ℕ → List ℕ) (gs : List NewIngredient) (ds : List NewAssertion) (b : NewAssertion)
     → AreLabelled gs → LabelsApart gs → AllByRecursion IsNew ds → IsKnownLabel b.label → AllByRecursion (IsRead hash) gs
     → AllZip IsReadBox (map written_assertion (ds ++ own_assertions hash gs b)) (new_boxes (read_as hash gs) (ds ++ own_assertions hash gs b))
@@ -233,11 +226,11 @@ own_listed hash (g ∷ gs) b h k = (
   own_listed hash gs b h.1 k,
 )
 
--- so can all
+-- all assertions can be listed
 pub all_listed : (hash : List ℕ → List ℕ) (gs : List NewIngredient) (ds : List NewAssertion) (b : NewAssertion)
     → AreLabelled gs → AllByRecursion IsNew ds → IsListed b → AllByRecursion IsListed (ds ++ own_assertions hash gs b)
 all_listed hash gs ds b h k l =
-    each-append IsListed ds (own_assertions hash gs b) (listed_each ds k) (own_listed hash gs b h l)
+    each_append IsListed ds (own_assertions hash gs b) (listed_each ds k) (own_listed hash gs b h l)
 
 -- the binding is the one
 own_binding : (hash : List ℕ → List ℕ) (gs : List NewIngredient) (b : NewAssertion) → AreLabelled gs
@@ -249,7 +242,7 @@ own_binding hash (g ∷ gs) b h k =
     (good_label g.label h.0).kind
     ∙ own_binding hash gs b h.1 k
 
--- of all
+-- the binding is the one of all assertions
 pub one_binding : (hash : List ℕ → List ℕ) (gs : List NewIngredient) (ds : List NewAssertion) (b : NewAssertion)
     → AreLabelled gs → AllByRecursion IsNew ds → rule.is_binding (kind_of b.label) ≡ true
     → bindings_of (ds ++ own_assertions hash gs b) ≡ b.label ∷ []
@@ -272,13 +265,13 @@ named_digest : (hash : Alg → List ℕ → List ℕ) (alg : Alg) (list : List �
 named_digest hash alg list =
     ap (λ o. has_digest_by hash o list (hash alg list)) (named_back alg) ∙ same_bytes (hash alg list)
 
--- so is that of a signature
+-- a digest of a signature by an algorithm that is named is right
 named_signature : (hash : Alg → List ℕ → List ℕ) (alg : Alg) (list : List ℕ)
     → not (has_digest_by hash (alg_named (alg_name alg)) list (hash alg list)) ≡ false
 named_signature hash alg list =
     not_from_true (has_digest_by hash (alg_named (alg_name alg)) list (hash alg list)) (named_digest hash alg list)
 
--- and the algorithm is known
+-- each algorithm is known by its name
 named_known : (alg : Alg)
     → (not (is_some (alg_named (alg_name alg))) || not (is_some (alg_named (alg_name alg)))) ≡ false
 named_known alg = ap (λ o. not (is_some o) || not (is_some o)) (named_back alg)
@@ -289,7 +282,7 @@ says_tests hash alg r uri g s =
     standing_tests hash r uri (target_ref (hash alg) g.of.label targets.whole g.of.contents)
     (Some (target_ref (hash alg) g.of.label targets.signature g.of.signed)) s
 
--- they hold, whether it is touched or not
+-- the rules on what an ingredient says of its manifest hold, whether it is touched or not
 named_holds : (hash : Alg → List ℕ → List ℕ) (f : NewAssertion → Parsed Ingredient) (label : List ℕ) (said : Said)
     (as_ : List NewAssertion) (claim message : List ℕ) (sp : SignParts) (uri : List ℕ) (g : NewIngredient)
     (s : Standing) (named : Reading) (t : Bool)
@@ -306,45 +299,44 @@ named_holds hash f label said as_ claim message sp uri g s named false e signed 
     (sym (e ∙ ap (λ o. whole o named.manifest.contents) signed ∙ ap (λ (x : List ℕ). whole (Some g.of.signed) x) contents))
     (named_known said.alg, (named_signature hash said.alg g.of.signed, (named_signature hash said.alg g.of.contents, tt)))
 
--- it stands earlier
+-- the rules on the order of an ingredient's manifest hold, which stands earlier
 order_holds : (uri : List ℕ) (s : Standing) (named : Reading) (t : Bool) → s ≡ child_standing t named
     → AllByRecursion Holds (order_tests uri s)
 order_holds uri s named true e = subst (λ s. AllByRecursion Holds (order_tests uri s)) (sym e) tt
 order_holds uri s named false e = subst (λ s. AllByRecursion Holds (order_tests uri s)) (sym e) tt
 
 -- the rule on the ingredient that a box is read as holds
-child_holds : UrisAreRead
-    → (hash : Alg → List ℕ → List ℕ) (f : NewAssertion → Parsed Ingredient) (label : List ℕ) (said : Said)
+child_holds : (hash : Alg → List ℕ → List ℕ) (f : NewAssertion → Parsed Ingredient) (label : List ℕ) (said : Said)
     (as_ : List NewAssertion) (claim message : List ℕ) (sp : SignParts) (redacted : List ℕ → Bool)
     (standing : List ℕ → Standing) (g : NewIngredient)
     → StandsBy standing g
     → AllByRecursion Holds (ingredient_tests hash (new_seen (new_reading (hash said.alg) f label said as_ claim message sp) redacted standing) (ingredient_box (hash said.alg) g))
-child_holds uris hash f label said as_ claim message sp redacted standing g h =
+child_holds hash f label said as_ claim message sp redacted standing g h =
     let r : Reading = new_reading (hash said.alg) f label said as_ claim message sp in
     let uri : List ℕ = assertion_box_uri r (Some g.label) in
     subst
     (λ o. AllByRecursion Holds (option_map_or (λ (l : List ℕ). says_tests hash said.alg r uri g (standing l)) o []))
-    (sym (whole_named uris g.of.label h.label))
+    (sym (whole_named g.of.label h.label))
     (named_holds hash f label said as_ claim message sp uri g (standing g.of.label) h.named h.touched h.is h.signed h.contents)
 
--- and the one on its form
-form_holds : UrisAreRead → (hash : List ℕ → List ℕ) (s : Seen) (g : NewIngredient) → IsIngredientLabel g.label
+-- the rule on the form of an ingredient holds
+form_holds : (hash : List ℕ → List ℕ) (s : Seen) (g : NewIngredient) → IsIngredientLabel g.label
     → StandsBy s.standing g → AllByRecursion Holds (form_tests s (ingredient_box hash g))
 unfolding rule.label_kind
-form_holds uris hash s g is h =
+form_holds hash s g is h =
     let uri : List ℕ = assertion_uri (label_in s.own) g.label in
     subst (λ k. AllByRecursion Holds (kind_tests s.standing uri (Value (written_ingredient hash g)) k))
     (sym (good_label g.label is).kind)
-    (subst (λ o. AllByRecursion Holds (option_map_or (λ (l : List ℕ). order_tests uri (s.standing l)) o [])) (sym (ingredient_named uris hash g h.label)) (order_holds uri (s.standing g.of.label) h.named h.touched h.is))
+    (subst (λ o. AllByRecursion Holds (option_map_or (λ (l : List ℕ). order_tests uri (s.standing l)) o [])) (sym (ingredient_named hash g h.label)) (order_holds uri (s.standing g.of.label) h.named h.touched h.is))
 
 -- box by box
 pub each_both : (f : ReadBox → List Test) (k : ℕ) (xs ys : List ReadBox) → AllByRecursion Holds (each (λ k b. f b) k xs)
     → ((j : ℕ) → AllByRecursion Holds (each (λ k b. f b) j ys)) → AllByRecursion Holds (each (λ k b. f b) k (xs ++ ys))
 each_both f k [] ys h g = g k
 each_both f k (x ∷ xs) ys h g =
-    each-append Holds (f x) (each (λ k b. f b) (k + 1) (xs ++ ys))
-    (each-front Holds (f x) (each (λ k b. f b) (k + 1) xs) h)
-    (each_both f (k + 1) xs ys (each-back Holds (f x) (each (λ k b. f b) (k + 1) xs) h) g)
+    each_append Holds (f x) (each (λ k b. f b) (k + 1) (xs ++ ys))
+    (each_front Holds (f x) (each (λ k b. f b) (k + 1) xs) h)
+    (each_both f (k + 1) xs ys (each_back Holds (f x) (each (λ k b. f b) (k + 1) xs) h) g)
 
 -- what holds of each ingredient's box holds of all
 own_each : (f : ReadBox → List Test) (hash : List ℕ → List ℕ) (P : NewIngredient → Type 0) (k : ℕ)
@@ -353,7 +345,7 @@ own_each : (f : ReadBox → List Test) (hash : List ℕ → List ℕ) (P : NewIn
     → AllByRecursion Holds (each (λ k b. f b) k (map (ingredient_box hash) gs))
 own_each f hash P k [] h p = tt
 own_each f hash P k (g ∷ gs) h p =
-    each-append Holds (f (ingredient_box hash g)) (each (λ k b. f b) (k + 1) (map (ingredient_box hash) gs)) (h g p.0)
+    each_append Holds (f (ingredient_box hash g)) (each (λ k b. f b) (k + 1) (map (ingredient_box hash) gs)) (h g p.0)
     (own_each f hash P (k + 1) gs h p.1)
 
 -- the parents among ingredients
@@ -396,15 +388,14 @@ gathered_reading hash c b claim message sp =
     (new_assertions hash c b) claim message sp
 
 -- what is asked of the boxes of the new manifest
-pub gathered_rest : UrisAreRead
-    → (hash : Alg → List ℕ → List ℕ) (c : Content) (b : NewAssertion) (claim message : List ℕ) (sp : SignParts)
+pub gathered_rest : (hash : Alg → List ℕ → List ℕ) (c : Content) (b : NewAssertion) (claim message : List ℕ) (sp : SignParts)
     (redacted : List ℕ → Bool) (standing : List ℕ → Standing)
     → AreIngredients c.ingredients → AllByRecursion IsNew c.definition.assertions → IsKnownLabel b.label
     → AllByRecursion (StandsBy standing) c.ingredients
     → AllByRecursion Holds (each (λ k text. redaction_tests c.definition.label (new_claim_uri c.definition.label) text) 0 c.definition.redact)
     → RestHolds hash (new_seen (gathered_reading (hash (new_alg c.definition)) c b claim message sp) redacted standing)
 unfolding rule.label_kind
-gathered_rest uris hash c b claim message sp redacted standing are plain known stand redactions =
+gathered_rest hash c b claim message sp redacted standing are plain known stand redactions =
     let h : List ℕ → List ℕ = hash (new_alg c.definition) in
     let d : Definition = c.definition in
     let gs : List NewIngredient = c.ingredients in
@@ -421,14 +412,14 @@ gathered_rest uris hash c b claim message sp redacted standing are plain known s
           subst (λ (bs : List ReadBox). AllByRecursion Holds (each (λ k b. ingredient_tests hash s b) 0 bs)) (sym split)
           (each_both (ingredient_tests hash s) 0 (new_boxes none_read d.assertions) tail (no_children hash s 0 d.assertions)
           (λ j. each_both (ingredient_tests hash s) j (map (ingredient_box h) gs) (new_box none_read b ∷ [])
-          (own_each (ingredient_tests hash s) h (IsFine standing) j gs (λ g f. child_holds uris hash (read_as h gs) d.label (said_by d) (new_assertions h c b) claim message sp redacted standing g f.stands) fine)
+          (own_each (ingredient_tests hash s) h (IsFine standing) j gs (λ g f. child_holds hash (read_as h gs) d.label (said_by d) (new_assertions h c b) claim message sp redacted standing g f.stands) fine)
           (λ i. tt)));
       forms =
           subst (λ (bs : List ReadBox). AllByRecursion Holds (each (λ k b. form_tests s b) 0 bs)) (sym split)
           (each_both (form_tests s) 0 (new_boxes none_read d.assertions) tail (no_forms s 0 d.assertions plain)
           (λ j. each_both (form_tests s) j (map (ingredient_box h) gs) (new_box none_read b ∷ [])
-          (own_each (form_tests s) h (IsFine standing) j gs (λ g f. form_holds uris h s g f.label f.stands) fine)
-          (λ i. each-append Holds (form_tests s (new_box none_read b)) [] last tt)));
+          (own_each (form_tests s) h (IsFine standing) j gs (λ g f. form_holds h s g f.label f.stands) fine)
+          (λ i. each_append Holds (form_tests s (new_box none_read b)) [] last tt)));
       redactions = redactions;
       parents = subst (λ (bs : List ReadBox). length bs ≤ 1)
           (sym (ap (filter reads_parent) split ∙ none_parent d.assertions tail))
@@ -443,41 +434,39 @@ root_place : (redacts : List (List ℕ)) (rs ss : List Reading) (g : NewIngredie
 root_place redacts rs ss g root less h = less_place redacts rs ss g.of.label less ∙ h.place
 
 -- the ingredients name their roots
-own_children : UrisAreRead
-    → (hash : List ℕ → List ℕ) (redacts : List (List ℕ)) (rs ss : List Reading) (b : NewAssertion)
+own_children : (hash : List ℕ → List ℕ) (redacts : List (List ℕ)) (rs ss : List Reading) (b : NewAssertion)
     (gs : List NewIngredient) (roots : List ℕ)
     → AreLess redacts rs ss → AllByRecursion (λ (g : NewIngredient). IsLabelText g.of.label) gs
     → AllZip (λ (g : NewIngredient) root. IsRoot rs ss g.of root) gs roots
     → filter_map (child_of ss (length ss)) (own_tail hash gs b) ≡ roots
-own_children uris hash redacts rs ss b [] [] less u h = refl
-own_children uris hash redacts rs ss b [] (n ∷ ns) less u h = absurd h
-own_children uris hash redacts rs ss b (g ∷ gs) [] less u h = absurd h
-own_children uris hash redacts rs ss b (g ∷ gs) (root ∷ roots) less u h =
+own_children hash redacts rs ss b [] [] less u h = refl
+own_children hash redacts rs ss b [] (n ∷ ns) less u h = absurd h
+own_children hash redacts rs ss b (g ∷ gs) [] less u h = absurd h
+own_children hash redacts rs ss b (g ∷ gs) (root ∷ roots) less u h =
     let within : root < length rs = h.0.within in
     let child : place_before (length ss) (option_and_then (place_of ss) (named_by (Some (written_ingredient hash g)))) ≡ Some root =
-    ap (λ o. place_before (length ss) (option_and_then (place_of ss) o)) (ingredient_named uris hash g u.0)
+    ap (λ o. place_before (length ss) (option_and_then (place_of ss) o)) (ingredient_named hash g u.0)
     ∙ ap (place_before (length ss)) (root_place redacts rs ss g root less h.0)
     ∙ ap (λ t. cond t (Some root) None)
     (lt-ltb root (length ss) (omega (arith, within, less_len redacts rs ss less))) in
     ap
     (λ o. cons_option o (filter_map (child_of ss (length ss)) (own_tail hash gs b))) child
-    ∙ ap (λ (ns : List ℕ). root ∷ ns) (own_children uris hash redacts rs ss b gs roots less u.1 h.1)
+    ∙ ap (λ (ns : List ℕ). root ∷ ns) (own_children hash redacts rs ss b gs roots less u.1 h.1)
 
--- so the new manifest has these roots as its children
-pub gathered_roots : UrisAreRead
-    → (hash : List ℕ → List ℕ) (c : Content) (b : NewAssertion) (claim message : List ℕ) (sp : SignParts)
+-- the new manifest has the roots as its children
+pub gathered_roots : (hash : List ℕ → List ℕ) (c : Content) (b : NewAssertion) (claim message : List ℕ) (sp : SignParts)
     (roots : List ℕ) (rs ss : List Reading)
     → AreIngredients c.ingredients → AllByRecursion IsNew c.definition.assertions → IsKnownLabel b.label
     → AreLess c.definition.redact rs ss
     → AllByRecursion (λ (g : NewIngredient). IsLabelText g.of.label) c.ingredients
     → AllZip (λ (g : NewIngredient) root. IsRoot rs ss g.of root) c.ingredients roots
     → HasRoots ss (gathered_reading hash c b claim message sp) roots
-gathered_roots uris hash c b claim message sp roots rs ss are plain known less u h =
+gathered_roots hash c b claim message sp roots rs ss are plain known less u h =
     ap (filter_map (child_of ss (length ss)))
     (split_boxes hash c.ingredients c.definition.assertions b are.labels are.apart plain known)
     ∙ none_child ss (length ss) c.definition.assertions
     (own_tail hash c.ingredients b)
-    ∙ own_children uris hash c.definition.redact rs ss b c.ingredients roots less u h
+    ∙ own_children hash c.definition.redact rs ss b c.ingredients roots less u h
 
 -- a root stands earlier than the new manifest
 pub root_stands : (redacts : List (List ℕ)) (rs ss : List Reading) (x : Reading) (g : NewIngredient) (root : ℕ)

@@ -1,10 +1,11 @@
 -- A written claim is read as the claim that it was made of.
+use Rattle.c2_claim.proofs.TheLaws.{a_written_claim_is_read}
 use Rattle.std.specs.Prelude.{IfSome}
-use Rattle.std.proofs.Common.{◌≡◌, ℕ, ◌^◌, ◌<◌, true, List, [], ◌∷◌, ◌++◌, length, map, Option, Some, None, Ok, refl, sym, subst, codes, lit≤}
+use Rattle.std.proofs.Common.{◌≡◌, ℕ, ◌^◌, ◌<◌, true, List, [], ◌∷◌, ◌++◌, length, map, Option, Some, None, refl, sym, subst, codes, lit≤}
 use Rattle.std.specs.List.{AllByRecursion}
 use Rattle.std.specs.Str.{IsUtf8}
 use Rattle.c2_spec.specs.declared.claim.ClaimVersion.TheVariants.{V2}
-use Rattle.c2_spec.specs.C2pa.Claim.{claim_of, IsClaim}
+use Rattle.c2_spec.specs.C2pa.Claim.{IsClaim}
 use Rattle.c2_spec.specs.Cbor.Deterministic.{sorted, deterministic, shortest_head}
 use Rattle.c2_spec.specs.Cbor.Item.{Item, bytes, text, list}
 use Rattle.c2_spec.specs.Cbor.View.{items_of}
@@ -12,9 +13,8 @@ use Rattle.c2_spec.specs.Cbor.Writing.{field, field_if, ref_item}
 use Rattle.c2_spec.specs.declared.cbor.Ref.{Ref}
 use Rattle.c2_claim.specs.Written.{claim_item, claim_from, claim_fields, generator_item, redactions_field, signature_uri}
 use Rattle.c2_claim.specs.declared.writing.ClaimParts.{ClaimParts}
-use Rattle.c2_new_store_spec.proofs.GoodItems.{Good, IsGoodField, good_text, good_bytes, good_list, good_map, keys_of, keys_differ, RoundTrip, good_read, more_deep, named_field}
-use Rattle.c2_new_store_spec.proofs.Lists.{each-append}
-use Rattle.c2_new_store_spec.proofs.StoreSize.{KeepsLength}
+use Rattle.c2_new_file_spec.proofs.GoodItems.{Good, IsGoodField, good_text, good_bytes, good_list, good_map, keys_of, keys_differ, good_read, more_deep, named_field}
+use Rattle.c2_lemmas.proofs.Each.{each_append}
 
 -- ---- references
 
@@ -28,13 +28,16 @@ pub bare_good : (url hash : List ℕ) → IsUtf8 url → Good 2 (ref_item (recor
 unfolding shortest_head
 bare_good url hash u =
     good_map 1 (field (codes "url") (text url) ∷ field (codes "hash") (bytes hash) ∷ [])
-    (named_field 1 (codes "url") (text url) refl (lit≤ tt) (good_text 1 url (lit≤ tt) u), (named_field 1 (codes "hash") (bytes hash) refl (lit≤ tt) (good_bytes 1 hash (lit≤ tt)), tt)) refl
+    (named_field 1 (codes "url") (text url) refl (lit≤ tt) (good_text 1 url (lit≤ tt) u), (named_field 1 (codes "hash") (bytes hash) refl (lit≤ tt) (good_bytes 1 hash (lit≤ tt)), tt))
+    refl
 
 -- the item of a reference that can be written is good
 ref_good : (r : Ref) → IsGoodRef r → Good 2 (ref_item r)
-ref_good r h = subst (λ (o : Option (List ℕ)). Good 2 (ref_item (record { url = r.url; hash = r.hash; alg = o }))) (sym h.alg) (bare_good r.url r.hash h.url)
+ref_good r h =
+    subst (λ (o : Option (List ℕ)). Good 2 (ref_item (record { url = r.url; hash = r.hash; alg = o }))) (sym h.alg)
+    (bare_good r.url r.hash h.url)
 
--- so are those of a list of such references
+-- the items of a list of references that can be written are good
 refs_good : (rs : List Ref) → AllByRecursion IsGoodRef rs → AllByRecursion (Good 2) (map ref_item rs)
 refs_good [] h = tt
 refs_good (r ∷ rs) h = (ref_good r h.0, refs_good rs h.1)
@@ -57,28 +60,35 @@ pub record AreGoodParts (p : ClaimParts) : Type 0 where
   pub redacted : AllByRecursion IsUtf8 p.redacted
 
 -- the field of a title is good, where the title is UTF-8 or there is none
-title_good : (o : Option (List ℕ)) → IfSome o IsUtf8 → AllByRecursion (IsGoodField 3) (field_if (codes "dc:title") text o)
+title_good : (o : Option (List ℕ)) → IfSome o IsUtf8
+    → AllByRecursion (IsGoodField 3) (field_if (codes "dc:title") text o)
 title_good None h = tt
 title_good (Some t) h = (named_field 3 (codes "dc:title") (text t) refl (lit≤ tt) (good_text 3 t (lit≤ tt) h), tt)
 
--- so is the field of redactions, where all are UTF-8 or there are none
+-- the field of redactions is good, where all are UTF-8 or there are none
 redactions_good : (ts : List (List ℕ)) → AllByRecursion IsUtf8 ts → AllByRecursion (IsGoodField 3) (redactions_field ts)
 redactions_good [] h = tt
-redactions_good (t ∷ ts) h = (named_field 3 (codes "redacted_assertions") _ refl (lit≤ tt) (more_deep 2 3 _ (good_list 1 (map text (t ∷ ts)) (texts_good (t ∷ ts) h)) (lit≤ tt)), tt)
+redactions_good (t ∷ ts) h =
+    (named_field 3 (codes "redacted_assertions") _ refl (lit≤ tt) (more_deep 2 3 _ (good_list 1 (map text (t ∷ ts)) (texts_good (t ∷ ts) h)) (lit≤ tt)), tt)
 
--- so is the item of the generator, where its name is UTF-8
+-- the item of the generator is good, where its name is UTF-8
 generator_good : (name : List ℕ) → IsUtf8 name → Good 2 (generator_item name)
 unfolding shortest_head
-generator_good name u = good_map 1 (field (codes "name") (text name) ∷ []) (named_field 1 (codes "name") (text name) refl (lit≤ tt) (good_text 1 name (lit≤ tt) u), tt) refl
+generator_good name u =
+    good_map 1 (field (codes "name") (text name) ∷ [])
+    (named_field 1 (codes "name") (text name) refl (lit≤ tt) (good_text 1 name (lit≤ tt) u), tt) refl
 
--- so is each field of a claim of such parts
+-- each field of a claim of good parts is good
 fields_good : (p : ClaimParts) → AreGoodParts p → AllByRecursion (IsGoodField 3) (claim_fields p)
 fields_good p h =
-    let middle : List (Item × Item) = field (codes "signature") (text (signature_uri p.label)) ∷ field (codes "instanceID") (text p.instance) ∷ field (codes "created_assertions") (list (items_of (map ref_item p.entries))) ∷ redactions_field p.redacted in
+    let middle : List (Item × Item) =
+    field (codes "signature") (text (signature_uri p.label)) ∷ field (codes "instanceID") (text p.instance)
+    ∷ field (codes "created_assertions") (list (items_of (map ref_item p.entries))) ∷ redactions_field
+    p.redacted in
     let last : List (Item × Item) = field (codes "claim_generator_info") (generator_item p.generator) ∷ [] in
     let front : List (Item × Item) = field (codes "alg") (text p.alg) ∷ field_if (codes "dc:title") text p.title in
-    each-append (IsGoodField 3) (front ++ middle) last
-    (each-append (IsGoodField 3) front middle
+    each_append (IsGoodField 3) (front ++ middle) last
+    (each_append (IsGoodField 3) front middle
     (named_field 3 (codes "alg") (text p.alg) refl (lit≤ tt) (good_text 3 p.alg (lit≤ tt) h.alg), title_good p.title h.title) (
       named_field 3 (codes "signature") _ refl (lit≤ tt) (good_text 3 (signature_uri p.label) (lit≤ tt) h.signature),
       (
@@ -97,14 +107,14 @@ parts_keys label instance generator None alg entries (t ∷ ts) = refl
 parts_keys label instance generator (Some t) alg entries [] = refl
 parts_keys label instance generator (Some t) alg entries (r ∷ rs) = refl
 
--- what is read of a claim that was written
-abbrev pub ClaimsAreRead : Type 0
-ClaimsAreRead = (p : ClaimParts) → claim_of V2 (sorted (claim_item p)) ≡ Ok (claim_from p)
-
 -- a written claim of such parts is read as the claim that it was made of
-pub claim_read : KeepsLength → RoundTrip → ClaimsAreRead → (p : ClaimParts) → AreGoodParts p → length (deterministic (claim_item p)) < 2 ^ 64 → IsClaim V2 (deterministic (claim_item p)) (claim_from p)
-claim_read keeps trip back p h short = record {
+pub claim_read : (p : ClaimParts) → AreGoodParts p → length (deterministic (claim_item p)) < 2 ^ 64
+    → IsClaim V2 (deterministic (claim_item p)) (claim_from p)
+claim_read p h short = record {
   item = sorted (claim_item p);
-  has = good_read keeps trip (claim_item p) (more_deep 4 64 (claim_item p) (good_map 3 (claim_fields p) (fields_good p h) (parts_keys p.label p.instance p.generator p.title p.alg p.entries p.redacted)) (lit≤ tt)) short;
-  is = back p;
+  has =
+      good_read (claim_item p)
+      (more_deep 4 64 (claim_item p) (good_map 3 (claim_fields p) (fields_good p h) (parts_keys p.label p.instance p.generator p.title p.alg p.entries p.redacted)) (lit≤ tt))
+      short;
+  is = a_written_claim_is_read p;
 }

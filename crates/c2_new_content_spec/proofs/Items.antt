@@ -1,5 +1,7 @@
 -- Ingredients as they are written, and that they are read so.
-use Rattle.std.proofs.Common.{◌≡◌, ◌↔◌, ℕ, ◌^◌, ◌<◌, ◌≤◌, true, false, not, List, [], ◌∷◌, ◌++◌, length, Some, Ok, refl, ap, ◌∙◌, subst, arith, codes, lit≤, length-append}
+use Rattle.c2_uri.proofs.TheLaws.{written_uris_are_read}
+use Rattle.c2_assertion.proofs.TheLaws.{a_written_ingredient_is_read, written_items_are_in_order_ingredient}
+use Rattle.std.proofs.Common.{◌≡◌, ℕ, ◌^◌, ◌<◌, ◌≤◌, true, false, not, List, [], ◌∷◌, ◌++◌, length, Some, Ok, refl, ap, ◌∙◌, subst, arith, codes, lit≤, length-append}
 use Rattle.std.specs.Prelude.{◌==◌, option_and_then}
 use Rattle.std.specs.List.{AllByRecursion, list_any}
 use Rattle.std.specs.Str.{IsUtf8}
@@ -8,7 +10,7 @@ use Rattle.std.proofs.lemmas.Str.{IsUtf8-append}
 use Rattle.c2_spec.specs.C2pa.Assertion.{ingredient_of, is_same, kind_of, manifest_named, manifest_signed, references_agree, signer_of, whole_of}
 use Rattle.c2_spec.specs.C2pa.Manifest.{is_manifest_label}
 use Rattle.c2_spec.specs.C2pa.Uri.{PlainUri, scheme, signature, store_path, uri_of, uri_text, whole}
-use Rattle.c2_spec.specs.Cbor.Deterministic.{deterministic, shortest_head, sorted}
+use Rattle.c2_spec.specs.Cbor.Deterministic.{deterministic, shortest_head}
 use Rattle.c2_spec.specs.Cbor.Fields.{HasItem}
 use Rattle.c2_spec.specs.Cbor.Item.{Item, text}
 use Rattle.c2_spec.specs.Cbor.Writing.{field, ref_item}
@@ -22,16 +24,15 @@ use Rattle.c2_rules.specs.Chains.{named_by}
 use Rattle.c2_rules.specs.Ingredients.{is_ingredient_kind}
 use Rattle.c2_assertion.specs.Written.{ingredient_item, relationship_word}
 use Rattle.c2_definition.specs.declared.types.NewAssertion.{NewAssertion}
-use Rattle.c2_new_store_spec.specs.Store.{NewIngredient, assertion_box, assertion_boxes, target_ref, written_ingredient}
-use Rattle.c2_new_store_spec.specs.Unbound.{IsKnownLabel}
-use Rattle.c2_new_store_spec.proofs.Conditions.{same_bytes}
-use Rattle.c2_new_store_spec.proofs.GoodItems.{Good, RoundTrip, good_map, good_read, good_text, more_deep, named_field}
-use Rattle.c2_new_store_spec.proofs.Labels.{IsLabelText, IsNamed}
-use Rattle.c2_new_store_spec.proofs.StoreSize.{KeepsLength}
-use Rattle.c2_new_store_spec.proofs.Texts.{plain_text}
+use Rattle.c2_new_file_spec.specs.Store.{NewIngredient, assertion_box, assertion_boxes, target_ref, written_ingredient}
+use Rattle.c2_new_file_spec.specs.Unbound.{IsKnownLabel}
+use Rattle.c2_new_file_spec.proofs.GoodItems.{Good, good_map, good_read, good_text, more_deep, named_field}
+use Rattle.c2_new_file_spec.proofs.Labels.{IsLabelText, IsNamed}
+use Rattle.c2_new_file_spec.proofs.Texts.{plain_text}
 use Rattle.c2_new_content_spec.proofs.Bindings.{by_label}
 use Rattle.c2_new_content_spec.proofs.Claims.{bare_good}
-use Rattle.c2_new_content_spec.proofs.Uris.{UrisAreRead, named_label, signature_read, signature_utf8}
+use Rattle.c2_new_content_spec.proofs.Uris.{named_label, signature_read, signature_utf8}
+use Rattle.c2_lemmas.proofs.Lists.{same_bytes}
 
 -- ---- labels
 
@@ -43,7 +44,8 @@ no_binding_reads = by_label (λ (l : List ℕ). is_ingredient_kind (kind_of l) �
 pub label_text : (l : List ℕ) → IsLabel l → is_manifest_label (Some l) ≡ true → IsLabelText l
 label_text l h k =
     let both = and_parts (not (length l == 0)) (not (list_any (λ b. b == 0x2F) l)) k in
-    record { some = positive (length l) (eqb-false (length l) 0 (not-true (length l == 0) both.0)); named = named l h.1 (not-true (list_any (λ b. b == 0x2F) l) both.1) }
+    record
+    { some = positive (length l) (eqb-false (length l) 0 (not-true (length l == 0) both.0)); named = named l h.1 (not-true (list_any (λ b. b == 0x2F) l) both.1) }
   where
     positive : (n : ℕ) → (n ≡ 0 → ⊥) → 0 < n
     positive n e = omega (arith, e)
@@ -57,36 +59,36 @@ label_text l h k =
 -- ---- references
 
 -- the URI of a manifest is read as that
-whole_read : UrisAreRead → (label : List ℕ) → IsLabelText label
+whole_read : (label : List ℕ) → IsLabelText label
     → uri_of (uri_text (record { manifest = Some label; target = whole })) ≡ Some (record { manifest = Some label; target = whole })
-whole_read read label h =
-    read (record { manifest = Some label; target = whole })
+whole_read label h =
+    written_uris_are_read (record { manifest = Some label; target = whole })
     (record { manifest = λ x e. (let same : label ≡ x = cc (e) in subst IsUriLabel same (named_label label h)); target = refl })
 
--- so it names the manifest
-pub whole_named : UrisAreRead → (label : List ℕ) → IsLabelText label
+-- the URI of a manifest names the manifest
+pub whole_named : (label : List ℕ) → IsLabelText label
     → manifest_named (uri_text (record { manifest = Some label; target = whole })) ≡ Some label
-whole_named uris label u =
-    ap (option_and_then (λ (x : PlainUri). whole_of x.manifest x.target)) (whole_read uris label u)
+whole_named label u =
+    ap (option_and_then (λ (x : PlainUri). whole_of x.manifest x.target)) (whole_read label u)
 
--- and that of its signature names it
-signed : UrisAreRead → (label : List ℕ) → IsLabelText label
+-- the URI of a manifest's signature names the manifest
+signed : (label : List ℕ) → IsLabelText label
     → manifest_signed (uri_text (record { manifest = Some label; target = signature })) ≡ Some label
-signed uris label u =
-    ap (option_and_then (λ (x : PlainUri). signer_of x.manifest x.target)) (signature_read uris label u)
+signed label u =
+    ap (option_and_then (λ (x : PlainUri). signer_of x.manifest x.target)) (signature_read label u)
 
 -- the ingredient names its manifest
-pub ingredient_named : UrisAreRead → (hash : List ℕ → List ℕ) (g : NewIngredient) → IsLabelText g.of.label
+pub ingredient_named : (hash : List ℕ → List ℕ) (g : NewIngredient) → IsLabelText g.of.label
     → named_by (Some (written_ingredient hash g)) ≡ Some g.of.label
-ingredient_named uris hash g u = whole_named uris g.of.label u
+ingredient_named hash g u = whole_named g.of.label u
 
--- both references agree
-agree : UrisAreRead → (hash : List ℕ → List ℕ) (g : NewIngredient) → IsLabelText g.of.label
+-- both references of an ingredient that was written agree
+agree : (hash : List ℕ → List ℕ) (g : NewIngredient) → IsLabelText g.of.label
     → references_agree (written_ingredient hash g).manifest (written_ingredient hash g).signature ≡ true
-agree uris hash g u =
+agree hash g u =
     ap (λ o. is_same o (manifest_signed (uri_text (record { manifest = Some g.of.label; target = signature }))))
-    (whole_named uris g.of.label u)
-    ∙ ap (is_same (Some g.of.label)) (signed uris g.of.label u) ∙ same_bytes g.of.label
+    (whole_named g.of.label u)
+    ∙ ap (is_same (Some g.of.label)) (signed g.of.label u) ∙ same_bytes g.of.label
 
 -- ---- the item
 
@@ -118,14 +120,6 @@ good hash g u =
       ),
     ) refl
 
--- what is read of an ingredient that was written
-abbrev pub IngredientsAreRead : Type 0
-IngredientsAreRead = (i : Ingredient) → (ingredient_of V3 (ingredient_item i) ≡ Ok i) ↔ (references_agree i.manifest i.signature ≡ true)
-
--- its fields stand in deterministic order
-abbrev pub IngredientsAreSorted : Type 0
-IngredientsAreSorted = (i : Ingredient) → sorted (ingredient_item i) ≡ ingredient_item i
-
 -- an item that is read as this ingredient
 pub record IsIngredient (payload : List ℕ) (g : Ingredient) : Type 0 where
   pub item : Item
@@ -133,17 +127,16 @@ pub record IsIngredient (payload : List ℕ) (g : Ingredient) : Type 0 where
   pub is : ingredient_of V3 item ≡ Ok g
 
 -- the ingredient is read as it was written
-pub ingredient_read : KeepsLength → RoundTrip → UrisAreRead → IngredientsAreRead → IngredientsAreSorted
-    → (hash : List ℕ → List ℕ) (g : NewIngredient) → IsLabelText g.of.label → IsUtf8 g.of.label
+pub ingredient_read : (hash : List ℕ → List ℕ) (g : NewIngredient) → IsLabelText g.of.label → IsUtf8 g.of.label
     → length (deterministic (ingredient_item (written_ingredient hash g))) < 2 ^ 64
     → IsIngredient (deterministic (ingredient_item (written_ingredient hash g))) (written_ingredient hash g)
-ingredient_read keeps trip uris back in_order hash g label u short =
+ingredient_read hash g label u short =
     let i : Ingredient = written_ingredient hash g in
     record {
       item = ingredient_item i;
-      has = subst (HasItem (deterministic (ingredient_item i))) (in_order i)
-          (good_read keeps trip (ingredient_item i) (more_deep 3 64 (ingredient_item i) (good hash g u) (lit≤ tt)) short);
-      is = (back i).1 (agree uris hash g label);
+      has = subst (HasItem (deterministic (ingredient_item i))) (written_items_are_in_order_ingredient i)
+          (good_read (ingredient_item i) (more_deep 3 64 (ingredient_item i) (good hash g u) (lit≤ tt)) short);
+      is = (a_written_ingredient_is_read i).1 (agree hash g label);
     }
 
 -- ---- sizes

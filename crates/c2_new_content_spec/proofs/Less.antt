@@ -5,10 +5,10 @@ use Rattle.std.specs.List.{AllByRecursion, prefix_len, cons_option}
 use Rattle.c2_rules.specs.Chains.{label_in, place_of, place_before, child_of, boxes_at, children, reaches_within, named_in, named_by}
 use Rattle.c2_rules.specs.Ingredients.{is_ingredient}
 use Rattle.c2_rules.specs.Readings.{ReadBox, Reading, value_in}
-use Rattle.c2_chain_older_spec.specs.Older.{is_kept}
-use Rattle.c2_parent_spec.specs.Less.{AreLess}
-use Rattle.c2_parent_spec.specs.Redacting.{takes_out}
-use Rattle.c2_parent_spec.proofs.Places.{less_at, less_label, less_len}
+use Rattle.c2_chain_spec.specs.Older.{is_kept}
+use Rattle.c2_new_file_spec.specs.Less.{AreLess}
+use Rattle.c2_new_file_spec.specs.Redacting.{takes_out}
+use Rattle.c2_new_file_spec.proofs.Places.{less_at, less_label, less_len}
 use Rattle.c2_new_content_spec.proofs.More.{children_front, reach_same}
 
 -- places by label
@@ -90,7 +90,7 @@ pub record Quiet (redacts : List (List ℕ)) (rs ss : List Reading) : Type 0 whe
   pub are_less : AreLess redacts rs ss
   pub silent : (i : ℕ) (r : Reading) → slice_get rs i ≡ Some r → AllByRecursion (Silent redacts (label_in r)) r.boxes
 
--- so the children stay
+-- the children stay in a chain whose lost boxes name nothing
 less_children : (redacts : List (List ℕ)) (rs ss : List Reading) (i : ℕ) → Quiet redacts rs ss → i < length rs
     → children ss i ≡ children rs i
 less_children redacts rs ss i q lt =
@@ -101,13 +101,13 @@ less_children redacts rs ss i q lt =
 
 -- ---- with the new manifest behind
 
--- also with the new manifest behind
+-- with the new manifest behind, an older manifest has the same children
 both_children : (redacts : List (List ℕ)) (rs ss : List Reading) (x : Reading) (i : ℕ) → Quiet redacts rs ss
     → i < length rs → children (ss ++ x ∷ []) i ≡ children rs i
 both_children redacts rs ss x i q lt =
     children_front ss x i (omega (arith, less_len redacts rs ss q.are_less, lt)) ∙ less_children redacts rs ss i q lt
 
--- and what is reached from there
+-- with the new manifest behind, an older manifest reaches the same manifests
 pub both_reach : (redacts : List (List ℕ)) (rs ss : List Reading) (x : Reading) (k i m : ℕ) → Quiet redacts rs ss
     → i < length rs → reaches_within (ss ++ x ∷ []) k i m ≡ reaches_within rs k i m
 both_reach redacts rs ss x k i m q lt =

@@ -78,7 +78,8 @@ position_more {X} p xs y = ⊎_elim inside outside (cases_lt (prefix_len (λ (x 
         → (position p (xs ++ y ∷ []) ≡ position p xs) ⊎ ((position p xs ≡ None) × (position p (xs ++ y ∷ []) ≡ Some (length xs)))
     outside h =
         let none : position p xs ≡ None = lost (prefix_len (λ (x : X). not (p x)) xs) (length xs) h in
-        ⊎_elim (λ e. inr (none, ap (λ n. cond (nat_lt n (length (xs ++ y ∷ []))) (Some n) None) e ∙ found (length xs) (length (xs ++ y ∷ [])) (omega (arith, len_more xs y))))
+        ⊎_elim
+        (λ e. inr (none, ap (λ n. cond (nat_lt n (length (xs ++ y ∷ []))) (Some n) None) e ∙ found (length xs) (length (xs ++ y ∷ [])) (omega (arith, len_more xs y))))
         (λ e. inl (ap (λ n. cond (nat_lt n (length (xs ++ y ∷ []))) (Some n) None) e ∙ lost (suc (length xs)) (length (xs ++ y ∷ [])) (omega (arith, len_more xs y)) ∙ sym none))
         (front_all (λ (x : X). not (p x)) xs y h)
 
@@ -106,7 +107,7 @@ pub child_more : (rs : List Reading) (r : Reading) (i : ℕ) (b : ReadBox) → i
     → child_of (rs ++ r ∷ []) i b ≡ child_of rs i b
 child_more rs r i b h = child_named rs r i (named_in b) h
 
--- so do the boxes of a manifest
+-- the boxes of an older manifest name the same children
 filter_more : (rs : List Reading) (r : Reading) (i : ℕ) (bs : List ReadBox) → i ≤ length rs
     → filter_map (child_of (rs ++ r ∷ []) i) bs ≡ filter_map (child_of rs i) bs
 filter_more rs r i [] h = refl
@@ -120,19 +121,19 @@ boxes_front [] r i h = absurd (omega arith)
 boxes_front (x ∷ xs) r zero h = refl
 boxes_front (x ∷ xs) r (suc i) h = boxes_front xs r i (omega arith)
 
--- those of the new one
+-- the boxes of the new manifest
 boxes_last : (rs : List Reading) (r : Reading) → boxes_at (rs ++ r ∷ []) (length rs) ≡ r.boxes
 boxes_last [] r = refl
 boxes_last (x ∷ xs) r = boxes_last xs r
 
--- so the children of an older manifest stay
+-- the children of an older manifest stay
 pub children_front : (rs : List Reading) (r : Reading) (i : ℕ) → i < length rs
     → children (rs ++ r ∷ []) i ≡ children rs i
 children_front rs r i h =
     ap (filter_map (child_of (rs ++ r ∷ []) i)) (boxes_front rs r i h)
     ∙ filter_more rs r i (boxes_at rs i) (omega arith)
 
--- and those of the new one are among the older
+-- the children of the new manifest are among the older ones
 pub children_last : (rs : List Reading) (r : Reading)
     → children (rs ++ r ∷ []) (length rs) ≡ filter_map (child_of rs (length rs)) r.boxes
 children_last rs r =
@@ -158,14 +159,14 @@ before_below n (Some m) xs h =
     (λ ge. subst (λ o. AllByRecursion (λ c. c < n) (cons_option o xs)) (sym (ap (λ b. cond b (Some m) None) (le-ltb m n ge))) h)
     (cases_lt m n)
 
--- so do those of some boxes
+-- the children of some boxes stand earlier
 below_boxes : (rs : List Reading) (n : ℕ) (bs : List ReadBox)
     → AllByRecursion (λ c. c < n) (filter_map (child_of rs n) bs)
 below_boxes rs n [] = tt
 below_boxes rs n (b ∷ bs) =
     before_below n (option_and_then (place_of rs) (named_in b)) (filter_map (child_of rs n) bs) (below_boxes rs n bs)
 
--- so do all children
+-- all children of a manifest stand earlier
 pub children_below : (rs : List Reading) (n : ℕ) → AllByRecursion (λ c. c < n) (children rs n)
 children_below rs n = below_boxes rs n (boxes_at rs n)
 

@@ -3,7 +3,6 @@ use Rattle.std.proofs.Common.{◌≡◌, inl, inr, ⊎_elim, ℕ, ◌+◌, ◌<�
 use Rattle.std.specs.Prelude.{option_and_then}
 use Rattle.std.specs.List.{AllByRecursion, list_any}
 use Rattle.std.proofs.lemmas.Bool.{cases_lt, lt-ltb, le-ltb, ne_eqb, or_left, or_right, or_parts, or_cases, and_parts, and_from, both_ways, false_from_ne_true, not_from_false}
-use Rattle.std.proofs.lemmas.Slice.Eq.{bytes_eq-Decides}
 use Rattle.c2_spec.specs.C2pa.Manifest.{Manifest, is_given}
 use Rattle.c2_spec.specs.declared.cbor.Ref.{Ref}
 use Rattle.c2_spec.specs.declared.digest.Alg.{Alg}
@@ -12,25 +11,21 @@ use Rattle.c2_rules.specs.CheckList.{place_tests, question_at, questions_of, tes
 use Rattle.c2_rules.specs.Ingredients.{is_ingredient}
 use Rattle.c2_rules.specs.Readings.{ReadBox, Reading, entries_in, redactions_in}
 use Rattle.c2_rules.specs.Rules.{unjudged_tests, lists_label}
-use Rattle.c2_rules.specs.Seen.{Seen, later, whole, seen_at, standing_of, place_standing, earlier_standing, child_standing, signature_contents}
-use Rattle.c2_rules.specs.Tests.{AllHold}
-use Rattle.c2_chain_older_spec.specs.Older.{Alike, Loses, StaysAlike, has_signature, is_kept, thinned}
+use Rattle.c2_rules.specs.Seen.{later, whole, seen_at, standing_of, place_standing, earlier_standing, child_standing, signature_contents}
+use Rattle.c2_chain_spec.specs.Older.{Alike, Loses, StaysAlike, has_signature, is_kept, thinned}
 use Rattle.c2_chain_spec.specs.Rooted.{HoldBy, is_reached_from, lists_passing, place_standing_by, redacted_by, seen_by, standing_by, touched_by}
-use Rattle.c2_new_store_spec.proofs.Conditions.{Holds, all_each, all_hold}
-use Rattle.c2_parent_spec.specs.Less.{CanRedactBy, SignsTaken}
-use Rattle.c2_parent_spec.specs.Redacting.{takes_out}
-use Rattle.c2_parent_spec.proofs.Places.{LessAt, less_at, less_len}
+use Rattle.c2_new_file_spec.proofs.Conditions.{Holds, all_each, all_hold}
+use Rattle.c2_new_file_spec.specs.Less.{CanRedactBy, SignsTaken}
+use Rattle.c2_new_file_spec.specs.Redacting.{takes_out}
+use Rattle.c2_new_file_spec.proofs.Places.{LessAt, less_at, less_len}
 use Rattle.c2_new_content_spec.proofs.Less.{less_place, Silent}
 use Rattle.c2_new_content_spec.proofs.More.{get_front, len_more, place_more}
 use Rattle.c2_new_content_spec.specs.Taken.{question_from}
 use Rattle.c2_new_content_spec.proofs.Roots.{IsOver, old_reached, redacted_more}
+use Rattle.c2_chain_spec.proofs.OlderRules.{without_boxes}
+use Rattle.c2_spec.proofs.GivenLabels.{given_is}
 
 -- ---- touched
-
--- what is given is this
-given_some : (o : Option (List ℕ)) (label : List ℕ) → is_given o label ≡ true → o ≡ Some label
-given_some None label e = absurd (cc (e))
-given_some (Some t) label e = ap Some ((bytes_eq-Decides t label).0 e)
 
 -- entries of which one lists a redacted label
 abbrev Touches : Manifest → (List ℕ → Bool) → List Ref → Bool
@@ -41,7 +36,8 @@ touches_listed : (m : Manifest) (red : List ℕ → Bool) (label : List ℕ) (es
     → lists_label m es label ≡ true → Touches m red es ≡ true
 touches_listed m red label [] r h = absurd (cc (h))
 touches_listed m red label (e ∷ es) r h =
-    ⊎_elim (λ own. or_left (passes_some red (entry_label m e)) (Touches m red es) (ap (passes_some red) (given_some (entry_label m e) label own) ∙ r))
+    ⊎_elim
+    (λ own. or_left (passes_some red (entry_label m e)) (Touches m red es) (ap (passes_some red) (given_is (entry_label m e) label own) ∙ r))
     (λ more_of. or_right (passes_some red (entry_label m e)) (Touches m red es) (touches_listed m red label es r more_of))
     (or_cases (is_given (entry_label m e) label) (lists_label m es label) h)
 
@@ -51,12 +47,13 @@ passes_more : (red red' : List ℕ → Bool) (o : Option (List ℕ)) → ((l : L
 passes_more red red' None h e = absurd (cc (e))
 passes_more red red' (Some l) h e = h l e
 
--- so what touched still does
+-- a manifest that was touched still is, where what was redacted still is
 touches_more : (m : Manifest) (red red' : List ℕ → Bool) (es : List Ref) → ((l : List ℕ) → red l ≡ true → red' l ≡ true)
     → Touches m red es ≡ true → Touches m red' es ≡ true
 touches_more m red red' [] h e = absurd (cc (e))
 touches_more m red red' (x ∷ es) h e =
-    ⊎_elim (λ own. or_left (passes_some red' (entry_label m x)) (Touches m red' es) (passes_more red red' (entry_label m x) h own))
+    ⊎_elim
+    (λ own. or_left (passes_some red' (entry_label m x)) (Touches m red' es) (passes_more red red' (entry_label m x) h own))
     (λ more_of. or_right (passes_some red' (entry_label m x)) (Touches m red' es) (touches_more m red red' es h more_of))
     (or_cases (passes_some red (entry_label m x)) (Touches m red es) e)
 
@@ -74,7 +71,9 @@ touches_new : (m : Manifest) (red red' : List ℕ → Bool) (taken : List ℕ �
 touches_new m red red' taken [] h a b = absurd (cc (b))
 touches_new m red red' taken (x ∷ es) h a b =
     let parts = or_parts (passes_some red (entry_label m x)) (Touches m red es) a in
-    ⊎_elim (λ own. passes_new red red' taken (entry_label m x) h parts.0 own) (λ more_of. touches_new m red red' taken es h parts.1 more_of) (or_cases (passes_some red' (entry_label m x)) (Touches m red' es) b)
+    ⊎_elim (λ own. passes_new red red' taken (entry_label m x) h parts.0 own)
+    (λ more_of. touches_new m red red' taken es h parts.1 more_of)
+    (or_cases (passes_some red' (entry_label m x)) (Touches m red' es) b)
 
 -- ---- how manifests stand
 
@@ -126,7 +125,8 @@ child_alike_at rs ss x roots i m b label h li lm place named signed =
         → is_redacted all m l ≡ ((is_reached_from rs roots m && takes_out redacts (label_in t.old) l) || redacted_by (is_reached_from rs roots) rs m l)
     more_red l = redacted_more rs ss x roots m t.old l h.over (omega arith) t.is_old
 
-    old_touched : touched_by (is_reached_from rs roots) rs m ≡ Touches t.old.manifest (redacted_by (is_reached_from rs roots) rs m) (entries_in t.old)
+    old_touched : touched_by (is_reached_from rs roots) rs m ≡ Touches t.old.manifest
+        (redacted_by (is_reached_from rs roots) rs m) (entries_in t.old)
     old_touched = ap (lists_passing (redacted_by (is_reached_from rs roots) rs m)) t.is_old
 
     new_touched : is_touched all m ≡ Touches t.old.manifest (is_redacted all m) (entries_in t.old)
@@ -135,7 +135,10 @@ child_alike_at rs ss x roots i m b label h li lm place named signed =
     -- a label that is taken out is redacted in the new store, so its manifest is touched
     taken_touches : (l : List ℕ) → takes_out redacts (label_in t.old) l ≡ true → is_touched all m ≡ true
     taken_touches l e =
-        let red : is_redacted all m l ≡ true = more_red l ∙ or_left (is_reached_from rs roots m && takes_out redacts (label_in t.old) l) (redacted_by (is_reached_from rs roots) rs m l)
+        let red : is_redacted all m l ≡ true =
+        more_red l
+        ∙ or_left (is_reached_from rs roots m && takes_out redacts (label_in t.old) l)
+        (redacted_by (is_reached_from rs roots) rs m l)
         (and_from (is_reached_from rs roots m) (takes_out redacts (label_in t.old) l) (h.can.reached m t.old l t.is_old e) e) in
         new_touched
         ∙ touches_listed t.old.manifest (is_redacted all m) l (entries_in t.old) red (h.can.listed m t.old l t.is_old e)
@@ -148,7 +151,7 @@ child_alike_at rs ss x roots i m b label h li lm place named signed =
         (λ l r. more_red l ∙ or_right (is_reached_from rs roots m && takes_out redacts (label_in t.old) l) (redacted_by (is_reached_from rs roots) rs m l) r)
         (sym old_touched ∙ e)
 
-    -- where it isn't touched nothing is taken out
+    -- where a manifest isn't touched nothing is taken out of it
     same_contents : is_touched all m ≡ false → t.less.contents ≡ t.old.manifest.contents
     same_contents e =
         t.less.same
@@ -156,7 +159,9 @@ child_alike_at rs ss x roots i m b label h li lm place named signed =
 
     newly : touched_by (is_reached_from rs roots) rs m ≡ false → is_touched all m ≡ true → has_signature b ≡ true
     newly e f =
-        let found = touches_new t.old.manifest (redacted_by (is_reached_from rs roots) rs m) (is_redacted all m) (takes_out redacts (label_in t.old)) (entries_in t.old)
+        let found =
+        touches_new t.old.manifest (redacted_by (is_reached_from rs roots) rs m) (is_redacted all m)
+        (takes_out redacts (label_in t.old)) (entries_in t.old)
         (λ l now before. (and_parts (is_reached_from rs roots m) (takes_out redacts (label_in t.old) l) (or_true_left (is_reached_from rs roots m && takes_out redacts (label_in t.old) l) (redacted_by (is_reached_from rs roots) rs m l) (sym (more_red l) ∙ now) before)).1)
         (sym old_touched ∙ e) (sym new_touched ∙ f) in
         signed t.old found.0 t.is_old found.1
@@ -183,7 +188,7 @@ child_alike_at rs ss x roots i m b label h li lm place named signed =
         (sym (before_is false e))
         (inl (after_is false f ∙ ap (λ (c : List ℕ). whole (signature_contents t.old) c) (same_contents f)))
 
--- and so does what a box names
+-- what a box of an older manifest names stands as it did
 standing_alike : (rs ss : List Reading) (x : Reading) (roots : List ℕ) (i : ℕ) (b : ReadBox) (label : List ℕ)
     → IsMade rs ss x roots → i < length rs → named_in b ≡ Some label
     → ((m : ℕ) (c : Reading) (l : List ℕ) → child_of rs i b ≡ Some m → slice_get rs m ≡ Some c → takes_out (redactions_in x) (label_in c) l ≡ true → has_signature b ≡ true)
@@ -262,16 +267,11 @@ stay_alike rs ss x roots i own [] h li s k q = tt
 stay_alike rs ss x roots i own (b ∷ bs) h li s k q =
     (record { alike = λ label named. standing_alike rs ss x roots i b label h li named s.0; no_kind = k.0; silent = q.0 }, stay_alike rs ss x roots i own bs h li s.1 k.1 q.1)
 
--- where the rules of a manifest hold, they hold once it lost boxes
-abbrev pub KeepsRules : Type 0
-KeepsRules = (hash : Alg → List ℕ → List ℕ) (out : List ℕ → Bool) (was now : Seen) → Loses out was now → AllHold (unjudged_tests hash was) → AllHold (unjudged_tests hash now)
-
 -- the rules of an older manifest hold in the new store
-pub older_holds : KeepsRules
-    → (hash : Alg → List ℕ → List ℕ) (rs ss : List Reading) (x : Reading) (roots : List ℕ) (i : ℕ)
+pub older_holds : (hash : Alg → List ℕ → List ℕ) (rs ss : List Reading) (x : Reading) (roots : List ℕ) (i : ℕ)
     → IsMade rs ss x roots → i < length rs → HoldBy hash (is_reached_from rs roots) rs
     → AllByRecursion Holds (place_tests (unjudged_tests hash) (ss ++ x ∷ []) i)
-older_holds keeps hash rs ss x roots i h li holds = go (is_reached_from rs roots i) refl
+older_holds hash rs ss x roots i h li holds = go (is_reached_from rs roots i) refl
   where
     all : List Reading
     all = ss ++ x ∷ []
@@ -323,7 +323,7 @@ older_holds keeps hash rs ss x roots i h li holds = go (is_reached_from rs roots
     now : is_reached_from rs roots i ≡ true → AllByRecursion Holds (unjudged_tests hash (seen_at all i new))
     now e =
         all_each (unjudged_tests hash (seen_at all i new))
-        (keeps hash (takes_out redacts (label_in t.old)) (seen_by (is_reached_from rs roots) rs i t.old) (seen_at all i new) (loses e) (all_hold (unjudged_tests hash (seen_by (is_reached_from rs roots) rs i t.old)) (seen e)))
+        (without_boxes hash (takes_out redacts (label_in t.old)) (seen_by (is_reached_from rs roots) rs i t.old) (seen_at all i new) (loses e) (all_hold (unjudged_tests hash (seen_by (is_reached_from rs roots) rs i t.old)) (seen e)))
 
     go : (b : Bool) → is_reached_from rs roots i ≡ b → AllByRecursion Holds (place_tests (unjudged_tests hash) all i)
     go true e =
@@ -342,7 +342,9 @@ pub old_question : (rs ss : List Reading) (x : Reading) (roots : List ℕ) (i : 
 old_question rs ss x roots i h lt =
     let redacts : List (List ℕ) = redactions_in x in
     let t : LessAt redacts rs ss i = less_at redacts rs ss i h.over.quiet.are_less lt in
-    let here : slice_get (ss ++ x ∷ []) i ≡ Some (thinned (takes_out redacts (label_in t.old)) t.less.contents t.less.assertions t.old) = get_front ss x i (omega (arith, less_len redacts rs ss h.over.quiet.are_less, lt)) ∙ t.is_new ∙ ap Some t.less.is in
+    let here : slice_get (ss ++ x ∷ []) i ≡ Some (thinned (takes_out redacts (label_in t.old)) t.less.contents t.less.assertions t.old) =
+    get_front ss x i (omega (arith, less_len redacts rs ss h.over.quiet.are_less, lt)) ∙ t.is_new
+    ∙ ap Some t.less.is in
     ap (λ b. cond b (questions_of (slice_get (ss ++ x ∷ []) i)) []) (old_reached redacts rs ss x roots i h.over lt)
     ∙ ap (λ o. cond (is_reached_from rs roots i) (questions_of o) []) here
     ∙ sym (ap (λ o. cond (is_reached_from rs roots i) (questions_of o) []) t.is_old)

@@ -21,14 +21,14 @@ use Rattle.c2_rules.specs.declared.parsed.Parsed.{Parsed}
 use Rattle.c2_rules.specs.declared.parsed.Parsed.TheVariants.{NoItem}
 use Rattle.c2_definition.specs.DefinitionFile as file
 use Rattle.c2_definition.specs.declared.types.NewAssertion.{NewAssertion}
-use Rattle.c2_new_store_spec.specs.Written.{IsText}
-use Rattle.c2_new_store_spec.proofs.Conditions.{Holds}
-use Rattle.c2_new_store_spec.proofs.Labels.{new_label}
-use Rattle.c2_new_store_spec.proofs.Lists.{each-append}
-use Rattle.c2_new_store_spec.proofs.WrittenStore.{IsNew}
+use Rattle.c2_new_file_spec.specs.Written.{IsText}
+use Rattle.c2_new_file_spec.proofs.Conditions.{Holds}
+use Rattle.c2_new_file_spec.proofs.Labels.{new_label}
+use Rattle.c2_new_file_spec.proofs.WrittenStore.{IsNew}
 use Rattle.c2_new_content_spec.proofs.Claims.{IsGoodRef}
 use Rattle.c2_new_content_spec.proofs.NewRules.{IsListed, bindings_of, entries_of, new_box, new_boxes}
 use Rattle.c2_new_content_spec.proofs.Uris.{assertion_utf8}
+use Rattle.c2_lemmas.proofs.Each.{each_append}
 
 -- what holds of Actions and Ordinary
 by_kind : (P : Kind → Type 0) → P kinds.Actions → P kinds.Ordinary → (k : Kind) → file.is_new_kind k ≡ true → P k
@@ -45,7 +45,7 @@ by_kind P a o kinds.Cloud e = absurd (false≢true e)
 no_binding : (k : Kind) → file.is_new_kind k ≡ true → is_binding k ≡ false
 no_binding = by_kind (λ k. is_binding k ≡ false) refl refl
 
--- nor an ingredient
+-- no new kind of assertion is an ingredient
 pub no_ingredient : (k : Kind) → file.is_new_kind k ≡ true → is_ingredient_kind k ≡ false
 no_ingredient = by_kind (λ k. is_ingredient_kind k ≡ false) refl refl
 
@@ -66,13 +66,13 @@ pub no_children : (hash : Alg → List ℕ → List ℕ) (s : Seen) (k : ℕ) (a
 no_children hash s k [] = tt
 no_children hash s k (a ∷ others) = no_children hash s (k + 1) others
 
--- and none has a form to keep
+-- no new assertion has a form to keep
 pub no_forms : (s : Seen) (k : ℕ) (as_ : List NewAssertion) → AllByRecursion IsNew as_
     → AllByRecursion Holds (each (λ k b. form_tests s b) k (new_boxes none_read as_))
 unfolding rule.label_kind
 no_forms s k [] h = tt
 no_forms s k (a ∷ others) h =
-    each-append Holds (form_tests s (new_box none_read a))
+    each_append Holds (form_tests s (new_box none_read a))
     (each (λ k b. form_tests s b) (k + 1) (new_boxes none_read others))
     (by_kind (λ x. AllByRecursion Holds (kind_tests s.standing (assertion_uri (label_in s.own) a.label) NoItem x)) tt tt (kind_of a.label) (new_label a.label h.0).kind)
     (no_forms s (k + 1) others h.1)
@@ -114,13 +114,13 @@ no_bindings (a ∷ ds) tail h =
     (no_binding (kind_of a.label) (new_label a.label h.0).kind)
     ∙ no_bindings ds tail h.1
 
--- they name no child
+-- a definition's assertions name no child
 pub none_child : (qs : List Reading) (n : ℕ) (ds : List NewAssertion) (tail : List ReadBox)
     → filter_map (child_of qs n) (new_boxes none_read ds ++ tail) ≡ filter_map (child_of qs n) tail
 none_child qs n [] tail = refl
 none_child qs n (a ∷ ds) tail = none_child qs n ds tail
 
--- and are no parents
+-- new assertions are no parents
 pub none_parent : (ds : List NewAssertion) (tail : List ReadBox)
     → filter reads_parent (new_boxes none_read ds ++ tail) ≡ filter reads_parent tail
 none_parent [] tail = refl

@@ -6,11 +6,11 @@ use Rattle.std.proofs.lemmas.Bool.{and_left, and_right, eq-eqb, ne_eqb, or_from,
 use Rattle.std.proofs.lemmas.Option.{same_Some}
 use Rattle.c2_rules.specs.Chains.{any_below, child_of, children, is_active, is_reached, is_redacted, label_in, reaches, reaches_within, redacts}
 use Rattle.c2_rules.specs.Readings.{Reading, redactions_in}
-use Rattle.c2_chain_older_spec.specs.Older.{thinned}
+use Rattle.c2_chain_spec.specs.Older.{thinned}
 use Rattle.c2_chain_spec.specs.Rooted.{is_reached_from, redacted_by}
-use Rattle.c2_parent_spec.specs.Less.{AreLess}
-use Rattle.c2_parent_spec.specs.Redacting.{takes_out}
-use Rattle.c2_parent_spec.proofs.Places.{less_at, less_len}
+use Rattle.c2_new_file_spec.specs.Less.{AreLess}
+use Rattle.c2_new_file_spec.specs.Redacting.{takes_out}
+use Rattle.c2_new_file_spec.proofs.Places.{less_at, less_len}
 use Rattle.c2_new_content_spec.proofs.Less.{Quiet, both_reach}
 use Rattle.c2_new_content_spec.proofs.More.{any_same, children_below, children_last, get_front, get_last, len_more, reach_earlier}
 
@@ -38,13 +38,13 @@ pub record IsOver (redacts : List (List ℕ)) (rs ss : List Reading) (x : Readin
   pub names : HasRoots ss x roots
   pub within : AllByRecursion (λ c. c < length rs) roots
 
--- so they are its children
+-- the roots are the children of the new manifest
 new_children : (redacts : List (List ℕ)) (rs ss : List Reading) (x : Reading) (roots : List ℕ)
     → IsOver redacts rs ss x roots → children (ss ++ x ∷ []) (length rs) ≡ roots
 new_children redacts rs ss x roots o =
     ap (children (ss ++ x ∷ [])) (sym (less_len redacts rs ss o.quiet.are_less)) ∙ children_last ss x ∙ o.names
 
--- it reaches what is reached from the roots
+-- the new manifest reaches what is reached from the roots
 pub new_reaches : (redacts : List (List ℕ)) (rs ss : List Reading) (x : Reading) (roots : List ℕ) (m : ℕ)
     → IsOver redacts rs ss x roots → reaches (ss ++ x ∷ []) (length rs) m ≡ is_reached_from rs roots m
 new_reaches redacts rs ss x roots m o =
@@ -54,9 +54,10 @@ new_reaches redacts rs ss x roots m o =
     (new_children redacts rs ss x roots o)
     ∙ any_same (λ c. nat_eq c m || reaches_within (ss ++ x ∷ []) (length rs) c m) (λ c. nat_eq c m || reaches rs c m)
     (λ c. c < length rs) roots
-    (λ c lt. ap (λ b. nat_eq c m || b) (both_reach redacts rs ss x (length rs) c m o.quiet lt ∙ steps_same rs (length rs) (c + 1) c m lt (omega arith))) o.within
+    (λ c lt. ap (λ b. nat_eq c m || b) (both_reach redacts rs ss x (length rs) c m o.quiet lt ∙ steps_same rs (length rs) (c + 1) c m lt (omega arith)))
+    o.within
 
--- so an older manifest is reached exactly where it was from the roots
+-- an older manifest is reached exactly where it was from the roots
 pub old_reached : (redacts : List (List ℕ)) (rs ss : List Reading) (x : Reading) (roots : List ℕ) (m : ℕ)
     → IsOver redacts rs ss x roots → m < length rs → is_reached (ss ++ x ∷ []) m ≡ is_reached_from rs roots m
 old_reached redacts rs ss x roots m o lt =
@@ -68,7 +69,7 @@ old_reached redacts rs ss x roots m o lt =
     ap (λ b. b || reaches (ss ++ x ∷ []) (length (ss ++ x ∷ []) - 1) m) not_last
     ∙ ap (λ n. reaches (ss ++ x ∷ []) n m) last ∙ new_reaches redacts rs ss x roots m o
 
--- and the new one is reached
+-- the new manifest is reached
 pub new_reached : (redacts : List (List ℕ)) (rs ss : List Reading) (x : Reading) → AreLess redacts rs ss
     → is_reached (ss ++ x ∷ []) (length rs) ≡ true
 new_reached redacts rs ss x less =
@@ -120,7 +121,8 @@ redacted_more rs ss x roots i r label o lt is_r =
     let same_old : t.old ≡ r = same_Some t.old r (sym t.is_old ∙ is_r) in
     let len : length all ≡ suc n = len_more ss x ∙ ap suc thin_n in
     let last : slice_get all n ≡ Some x = ap (slice_get all) (sym thin_n) ∙ get_last ss x in
-    let here : slice_get all i ≡ Some (thinned (takes_out (redactions_in x) (label_in t.old)) t.less.contents t.less.assertions t.old) = get_front ss x i (omega (arith, thin_n, lt)) ∙ t.is_new ∙ ap Some t.less.is in
+    let here : slice_get all i ≡ Some (thinned (takes_out (redactions_in x) (label_in t.old)) t.less.contents t.less.assertions t.old) =
+    get_front ss x i (omega (arith, thin_n, lt)) ∙ t.is_new ∙ ap Some t.less.is in
     let own : redacts (slice_get all n) (slice_get all i) label ≡ takes_out (redactions_in x) (label_in r) label =
     ap (λ o. redacts o (slice_get all i) label) last ∙ ap (λ o. redacts (Some x) o label) here
     ∙ ap (λ (y : Reading). takes_out (redactions_in x) (label_in y) label) same_old in
@@ -144,7 +146,8 @@ new_redacted redacted rs ss x label less =
     let all : List Reading = ss ++ x ∷ [] in
     let len : length all ≡ suc (length rs) = len_more ss x ∙ ap suc (less_len redacted rs ss less) in
     ap
-    (any_below (λ k. is_reached all k && reaches all k (length rs) && redacts (slice_get all k) (slice_get all (length rs)) label)) len
+    (any_below (λ k. is_reached all k && reaches all k (length rs) && redacts (slice_get all k) (slice_get all (length rs)) label))
+    len
     ∙ any_below_false
     (λ k. is_reached all k && reaches all k (length rs) && redacts (slice_get all k) (slice_get all (length rs)) label)
     (suc (length rs)) (λ k lt.

@@ -22,55 +22,49 @@ use Rattle.c2_rules.specs.Tests.{Test, downward}
 use Rattle.c2_claim.specs.Written.{claim_from}
 use Rattle.c2_definition.specs.declared.types.Definition.{Definition}
 use Rattle.c2_definition.specs.declared.types.NewAssertion.{NewAssertion}
-use Rattle.c2_new_store_spec.specs.Manifests.{manifest_of, supers_in}
-use Rattle.c2_new_store_spec.specs.Store.{Content, NewIngredient, assertion_boxes, claim_parts, ingredient_assertion, new_alg, new_assertions, new_claim, new_manifest, new_store}
-use Rattle.c2_new_store_spec.specs.Unbound.{IsKnownBinding}
-use Rattle.c2_new_store_spec.specs.Written.{IsNewBinding, IsRead, IsText, new_written, written_assertion, written_item}
-use Rattle.c2_new_store_spec.proofs.Conditions.{Holds, all_each, all_hold}
-use Rattle.c2_new_store_spec.proofs.GoodItems.{RoundTrip}
-use Rattle.c2_new_store_spec.proofs.Ingredients.{AreLabelled, good_label}
-use Rattle.c2_new_store_spec.proofs.Labels.{IsLabelText, manifest_label}
-use Rattle.c2_new_store_spec.proofs.Lists.{each-append}
-use Rattle.c2_new_store_spec.proofs.StoreSize.{KeepsLength, assertion_len, manifest_len, store_len}
-use Rattle.c2_new_store_spec.proofs.Texts.{name_utf8}
-use Rattle.c2_new_store_spec.proofs.WrittenStore.{AreDifferent, all_different, own_assertions, store_read}
-use Rattle.c2_parent_spec.specs.Less.{AreLess}
-use Rattle.c2_parent_spec.proofs.Places.{less_len}
+use Rattle.c2_new_file_spec.specs.Manifests.{manifest_of, supers_in}
+use Rattle.c2_new_file_spec.specs.Store.{Content, NewIngredient, assertion_boxes, claim_parts, ingredient_assertion, new_alg, new_assertions, new_claim, new_manifest, new_store}
+use Rattle.c2_new_file_spec.specs.Unbound.{IsKnownBinding}
+use Rattle.c2_new_file_spec.specs.Written.{IsNewBinding, IsStoreEndingWith, IsText, new_written, written_assertion, written_item}
+use Rattle.c2_new_file_spec.proofs.Conditions.{Holds, all_each, all_hold}
+use Rattle.c2_new_file_spec.proofs.Ingredients.{AreLabelled, good_label}
+use Rattle.c2_new_file_spec.proofs.Labels.{IsLabelText, manifest_label}
+use Rattle.c2_new_file_spec.proofs.StoreSize.{assertion_len, manifest_len, store_len}
+use Rattle.c2_new_file_spec.proofs.Texts.{name_utf8}
+use Rattle.c2_new_file_spec.proofs.WrittenStore.{AreDifferent, all_different, own_assertions, store_read}
+use Rattle.c2_new_file_spec.specs.Less.{AreLess}
+use Rattle.c2_new_file_spec.proofs.Places.{less_len}
 use Rattle.c2_new_content_spec.specs.Gathered.{GatheredStoreMeets, GatheredStoreReaches, IsOverRoots}
 use Rattle.c2_new_content_spec.specs.Taken.{IsRoot, question_from, questions_from}
 use Rattle.c2_new_content_spec.proofs.Bindings.{IsBindingLabel, by_label, known_label, known_new}
-use Rattle.c2_new_content_spec.proofs.Boxes.{StandsBy, all_listed, boxes_zip, gathered_reading, gathered_rest, gathered_roots, one_binding, read_as, root_stands, said_by, zip_append}
+use Rattle.c2_new_content_spec.proofs.Boxes.{StandsBy, all_listed, boxes_zip, gathered_reading, gathered_rest, gathered_roots, one_binding, read_as, root_stands, said_by}
 use Rattle.c2_new_content_spec.proofs.Boxes as boxes
-use Rattle.c2_new_content_spec.proofs.Claims.{AreGoodParts, ClaimsAreRead, claim_read}
-use Rattle.c2_new_content_spec.proofs.Items.{IngredientsAreRead, IngredientsAreSorted, box_within, ingredient_read, label_text}
+use Rattle.c2_new_content_spec.proofs.Claims.{AreGoodParts, claim_read}
+use Rattle.c2_new_content_spec.proofs.Items.{box_within, ingredient_read, label_text}
 use Rattle.c2_new_content_spec.proofs.Less.{silent_boxes}
 use Rattle.c2_new_content_spec.proofs.More.{get_last, len_more}
 use Rattle.c2_new_content_spec.proofs.NewRules.{IsListed, RestHolds, bindings_of, box_found, new_box, new_boxes, new_seen, own_bindings, own_names, own_rules}
-use Rattle.c2_new_content_spec.proofs.Older.{IsMade, KeepsRules, old_question, older_holds}
+use Rattle.c2_new_content_spec.proofs.Older.{IsMade, old_question, older_holds}
 use Rattle.c2_new_content_spec.proofs.Plain.{refs_good, texts_utf8, title_utf8}
 use Rattle.c2_new_content_spec.proofs.Roots.{new_reached, new_redacted, old_reached}
-use Rattle.c2_new_content_spec.proofs.Uris.{UrisAreRead, signature_utf8}
-
--- what the laws of other crates say of a store
-pub record AllLaws : Type 0 where
-  pub keeps : KeepsLength
-  pub trip : RoundTrip
-  pub claims : ClaimsAreRead
-  pub uris : UrisAreRead
-  pub ingredients : IngredientsAreRead
-  pub sorted : IngredientsAreSorted
-  pub older : KeepsRules
+use Rattle.c2_new_content_spec.proofs.Uris.{signature_utf8}
+use Rattle.c2_lemmas.proofs.Each.{each_append, zip_append}
 
 -- the item of the binding's box
-pub payload_of : (x : Reading) (binding : NewAssertion) (b : ReadBox) → bindings_in x ≡ binding.label ∷ [] → box_with x binding.label ≡ Some b → binding_payload x ≡ b.boxed.item
+pub payload_of : (x : Reading) (binding : NewAssertion) (b : ReadBox) → bindings_in x ≡ binding.label ∷ []
+    → box_with x binding.label ≡ Some b → binding_payload x ≡ b.boxed.item
 payload_of x binding b bindings box =
-    ap (λ (ls : List (List ℕ)). option_and_then (λ (r : ReadBox). r.boxed.item) (option_and_then (box_with x) (slice_get ls 0))) bindings ∙ ap (option_and_then (λ (r : ReadBox). r.boxed.item)) box
+    ap
+    (λ (ls : List (List ℕ)). option_and_then (λ (r : ReadBox). r.boxed.item) (option_and_then (box_with x) (slice_get ls 0)))
+    bindings
+    ∙ ap (option_and_then (λ (r : ReadBox). r.boxed.item)) box
 
 -- a binding can be listed
 binding_listed : (b : NewAssertion) → IsKnownBinding b → IsListed b
 binding_listed b known =
     let k : IsBindingLabel b.label = known_label b.label known.label in
-    record { text = k.named; no_cloud = by_label (λ (l : List ℕ). is_cloud (kind_of l) ≡ false) refl refl b.label known.label; no_other = by_label (λ (l : List ℕ). is_other_hash (kind_of l) ≡ false) refl refl b.label known.label }
+    record
+    { text = k.named; no_cloud = by_label (λ (l : List ℕ). is_cloud (kind_of l) ≡ false) refl refl b.label known.label; no_other = by_label (λ (l : List ℕ). is_other_hash (kind_of l) ≡ false) refl refl b.label known.label }
 
 -- the texts of what the builder adds
 own_texts : (hash : List ℕ → List ℕ) (gs : List NewIngredient) (b : NewAssertion) → AreLabelled gs → IsText b.label
@@ -98,21 +92,20 @@ roots_stand redacts rs ss x (g ∷ gs) (n ∷ ns) less u h =
     (root_stands redacts rs ss x g n less u.0 h.0, roots_stand redacts rs ss x gs ns less u.1 h.1)
 
 -- each ingredient is read, where the boxes of all assertions are short
-items_read : AllLaws
-    → (hash : List ℕ → List ℕ) (before : List NewAssertion) (gs : List NewIngredient) (after rest : List NewAssertion)
+items_read : (hash : List ℕ → List ℕ) (before : List NewAssertion) (gs : List NewIngredient) (after rest : List NewAssertion)
     (roots : List ℕ) (rs ss : List Reading)
     → AllByRecursion (λ (g : NewIngredient). IsLabelText g.of.label) gs
     → AllZip (λ (g : NewIngredient) root. IsRoot rs ss g.of root) gs roots
     → rest ≡ before ++ (map (ingredient_assertion hash) gs ++ after)
     → length (trees_bytes (assertion_boxes rest)) < 2 ^ 64 → AllByRecursion (boxes.IsRead hash) gs
-items_read laws hash before [] after rest roots rs ss u h e short = tt
-items_read laws hash before (g ∷ gs) after rest [] rs ss u h e short = absurd h
-items_read laws hash before (g ∷ gs) after rest (n ∷ ns) rs ss u h e short =
+items_read hash before [] after rest roots rs ss u h e short = tt
+items_read hash before (g ∷ gs) after rest [] rs ss u h e short = absurd h
+items_read hash before (g ∷ gs) after rest (n ∷ ns) rs ss u h e short =
     let inside = box_within before (ingredient_assertion hash g) (map (ingredient_assertion hash) gs ++ after) in
     let whole : length (trees_bytes (assertion_boxes rest)) ≡ length (trees_bytes (assertion_boxes (before ++ ingredient_assertion hash g ∷ (map (ingredient_assertion hash) gs ++ after)))) = ap (λ (z : List NewAssertion). length (trees_bytes (assertion_boxes z))) e in (
-      ingredient_read laws.keeps laws.trip laws.uris laws.ingredients laws.sorted hash g u.0 h.0.label.0
+      ingredient_read hash g u.0 h.0.label.0
           (omega (arith, short, whole, inside, assertion_len (ingredient_assertion hash g))),
-      items_read laws hash (before ++ ingredient_assertion hash g ∷ []) gs after rest ns rs ss u.1 h.1
+      items_read hash (before ++ ingredient_assertion hash g ∷ []) gs after rest ns rs ss u.1 h.1
           (e ∙ sym (append_assoc before (ingredient_assertion hash g ∷ []) (map (ingredient_assertion hash) gs ++ after))) short,
     )
 
@@ -121,9 +114,9 @@ pub downward_holds : (f : ℕ → List Test) (n : ℕ) → ((i : ℕ) → i < n 
     → AllByRecursion Holds (downward f n)
 downward_holds f zero h = tt
 downward_holds f (suc n) h =
-    each-append Holds (f n) (downward f n) (h n (omega arith)) (downward_holds f n (λ i lt. h i (omega arith)))
+    each_append Holds (f n) (downward f n) (h n (omega arith)) (downward_holds f n (λ i lt. h i (omega arith)))
 
--- the same questions place by place
+-- where the questions are the same place by place, they are the same
 pub questions_same : (f g : ℕ → List Question) (n : ℕ) → ((i : ℕ) → i < n → f i ≡ g i) → downward f n ≡ downward g n
 questions_same f g zero h = refl
 questions_same f g (suc n) h =
@@ -155,17 +148,17 @@ new_of hash c binding message sp = gathered_reading hash c binding (new_claim ha
 -- over, less what is redacted, and the new one, whose ingredients are the roots.
 pub record AreGathered (hash : List ℕ → List ℕ) (c : Content) (binding : NewAssertion) (message : List ℕ) (sp : SignParts) (roots : List ℕ) (rs ss : List Reading) : Type 0 where
   pub different : AreDifferent (new_assertions hash c binding)
-  pub read : IsRead c.carried (new_written hash c binding message) (new_store hash c binding message)
+  pub read : IsStoreEndingWith c.carried (new_written hash c binding message) (new_store hash c binding message)
   pub made : IsMade rs ss (new_of hash c binding message sp) roots
-  pub reads : AreReadings (manifests_of (new_store hash c binding message)) (ss ++ new_of hash c binding message sp ∷ [])
+  pub reads : AreReadings (manifests_of (new_store hash c binding message))
+      (ss ++ new_of hash c binding message sp ∷ [])
 
--- they are
-gathered_are : AllLaws
-    → (hash : Alg → List ℕ → List ℕ) (c : Content) (binding : NewAssertion) (message : List ℕ) (sp : SignParts)
+-- the store is gathered as the record says
+gathered_are : (hash : Alg → List ℕ → List ℕ) (c : Content) (binding : NewAssertion) (message : List ℕ) (sp : SignParts)
     (roots : List ℕ) (rs ss : List Reading)
     → IsOverRoots hash c binding message sp roots rs ss
     → AreGathered (hash (new_alg c.definition)) c binding message sp roots rs ss
-gathered_are laws hash c binding message sp roots rs ss o =
+gathered_are hash c binding message sp roots rs ss o =
     let h : List ℕ → List ℕ = hash (new_alg c.definition) in
     let d : Definition = c.definition in
     let gs : List NewIngredient = c.ingredients in
@@ -176,10 +169,10 @@ gathered_are laws hash c binding message sp roots rs ss o =
     let u : AllByRecursion (λ (g : NewIngredient). IsLabelText g.of.label) gs = root_labels rs ss gs roots o.named in
     let new : IsNewBinding binding = known_new binding o.known in
     let different : AreDifferent as_ = all_different h c binding o.written o.ingredients new in
-    let read : IsRead c.carried (new_written h c binding message) (new_store h c binding message) =
+    let read : IsStoreEndingWith c.carried (new_written h c binding message) (new_store h c binding message) =
     store_read h c binding message o.written o.taken.can_be o.ingredients new o.fits in
     let texts : AllByRecursion (λ (a : NewAssertion). IsText a.label) as_ =
-    each-append (λ (a : NewAssertion). IsText a.label) d.assertions (own_assertions h gs binding) o.written.texts.labels
+    each_append (λ (a : NewAssertion). IsText a.label) d.assertions (own_assertions h gs binding) o.written.texts.labels
     (own_texts h gs binding o.ingredients.labels own_label.text) in
     let parts : AreGoodParts (claim_parts h c binding) = record {
       signature = signature_utf8 d.label o.written.texts.label.utf8;
@@ -193,9 +186,9 @@ gathered_are laws hash c binding message sp roots rs ss o =
     let whole = store_len c.carried (new_manifest h c binding message) in
     let inner = manifest_len d.label as_ claim message in
     let is_claim : IsClaim V2 claim (claim_from (claim_parts h c binding)) =
-    claim_read laws.keeps laws.trip laws.claims (claim_parts h c binding) parts (omega (arith, whole, inner, o.fits)) in
+    claim_read (claim_parts h c binding) parts (omega (arith, whole, inner, o.fits)) in
     let items : AllByRecursion (boxes.IsRead h) gs =
-    items_read laws h d.assertions gs (binding ∷ []) as_ roots rs ss u o.named refl
+    items_read h d.assertions gs (binding ∷ []) as_ roots rs ss u o.named refl
     (omega (arith, whole, inner, o.fits)) in
     let own_boxes : AllZip IsReadBox (map written_assertion as_) (new_boxes (read_as h gs) as_) =
     boxes_zip h gs d.assertions binding o.ingredients.labels o.ingredients.apart o.written.formed.labels o.known.label items in
@@ -204,8 +197,12 @@ gathered_are laws hash c binding message sp roots rs ss o =
       read = read;
       made = record {
         over = record {
-          quiet = record { are_less = o.taken.less; silent = λ i r e. silent_boxes d.redact (label_in r) r.boxes (o.taken.can.kinds i r e) (o.taken.rooted.kinds i r e) };
-          names = gathered_roots laws.uris h c binding claim message sp roots rs ss o.ingredients o.written.formed.labels o.known.label o.taken.less u o.named;
+          quiet =
+              record
+              { are_less = o.taken.less; silent = λ i r e. silent_boxes d.redact (label_in r) r.boxes (o.taken.can.kinds i r e) (o.taken.rooted.kinds i r e) };
+          names =
+              gathered_roots h c binding claim message sp roots rs ss o.ingredients o.written.formed.labels
+              o.known.label o.taken.less u o.named;
           within = o.taken.rooted.within;
         };
         can = o.taken.can;
@@ -217,14 +214,14 @@ gathered_are laws hash c binding message sp roots rs ss o =
 -- ---- the rules
 
 -- the store meets them
-pub gathered_unbound : AllLaws → GatheredStoreMeets
+pub gathered_unbound : GatheredStoreMeets
 unfolding rule.label_kind
-gathered_unbound laws hash c binding message sp roots rs ss o =
+gathered_unbound hash c binding message sp roots rs ss o =
     let h : List ℕ → List ℕ = hash (new_alg c.definition) in
     let d : Definition = c.definition in
     let gs : List NewIngredient = c.ingredients in
     let k : AreGathered h c binding message sp roots rs ss =
-    gathered_are laws hash c binding message sp roots rs ss o in
+    gathered_are hash c binding message sp roots rs ss o in
     let as_ : List NewAssertion = new_assertions h c binding in
     let claim : List ℕ = new_claim h c binding in
     let x : Reading = new_of h c binding message sp in
@@ -240,11 +237,11 @@ gathered_unbound laws hash c binding message sp roots rs ss o =
     let same_len : length ss ≡ n = less_len d.redact rs ss o.taken.less in
     let s : Seen = new_seen x (is_redacted all n) (standing_of all n) in
     let rest : RestHolds hash s =
-    gathered_rest laws.uris hash c binding claim message sp (is_redacted all n)
+    gathered_rest hash c binding claim message sp (is_redacted all n)
     (standing_of all n) o.ingredients o.written.formed.labels o.known.label
     (roots_stand d.redact rs ss x gs roots o.taken.less u o.named) (all_each _ o.taken.redactions) in
     let own : AllByRecursion Holds (unjudged_tests hash s) =
-    own_rules laws.uris hash (read_as h gs) d.label (said_by d) as_ claim message sp (is_redacted all n)
+    own_rules hash (read_as h gs) d.label (said_by d) as_ claim message sp (is_redacted all n)
     (standing_of all n) binding.label label listed k.different
     (λ l. new_redacted d.redact rs ss x l o.taken.less) one rest in
     let active : is_active all n ≡ true = eq-eqb (n + 1) (length all) (omega (arith, len_more ss x, same_len)) in
@@ -257,10 +254,10 @@ gathered_unbound laws hash c binding message sp roots rs ss o =
     let total_len : length all ≡ suc n = len_more ss x ∙ ap suc same_len in
     let chain : AllByRecursion Holds (chain_tests (unjudged_tests hash) all) =
     subst (λ k. AllByRecursion Holds (downward (place_tests (unjudged_tests hash) all) k)) (sym total_len)
-    (each-append Holds (place_tests (unjudged_tests hash) all n) (downward (place_tests (unjudged_tests hash) all) n) own_place (downward_holds (place_tests (unjudged_tests hash) all) n (λ i lt. older_holds laws.older hash rs ss x roots i k.made lt o.taken.rooted.holds))) in
+    (each_append Holds (place_tests (unjudged_tests hash) all n) (downward (place_tests (unjudged_tests hash) all) n) own_place (downward_holds (place_tests (unjudged_tests hash) all) n (λ i lt. older_holds hash rs ss x roots i k.made lt o.taken.rooted.holds))) in
     let last_place : length all - 1 ≡ n = omega (arith, total_len) in
     let bindings : bindings_in x ≡ binding.label ∷ [] =
-    own_bindings laws.uris h (read_as h gs) d.label (said_by d) as_ claim message sp binding.label listed one in
+    own_bindings h (read_as h gs) d.label (said_by d) as_ claim message sp binding.label listed one in
     let front : List NewAssertion = d.assertions ++ map (ingredient_assertion h) gs in
     let split : as_ ≡ front ++ binding ∷ [] =
     sym (append_assoc d.assertions (map (ingredient_assertion h) gs) (binding ∷ [])) in
@@ -280,15 +277,15 @@ gathered_unbound laws hash c binding message sp roots rs ss o =
       no_update = all_hold (active_tests (Some x)) (refl, tt);
       holds = all_hold (chain_tests (unjudged_tests hash) all) chain;
       asks = all_questions rs ss x roots (question_of sp claim) k.made last_is total_len
-          (ap (λ b. asked_of b (Some claim) (Some sp)) (own_names laws.uris h d.label (said_by d) as_ claim message label));
+          (ap (λ b. asked_of b (Some claim) (Some sp)) (own_names h d.label (said_by d) as_ claim message label));
     }
 
--- and this is reached in it
-pub gathered_reaches : AllLaws → GatheredStoreReaches
-gathered_reaches laws hash c binding message sp roots rs ss o =
+-- the new manifest and what is reached from the roots are reached in the store
+pub gathered_reaches : GatheredStoreReaches
+gathered_reaches hash c binding message sp roots rs ss o =
     let h : List ℕ → List ℕ = hash (new_alg c.definition) in
     let k : AreGathered h c binding message sp roots rs ss =
-    gathered_are laws hash c binding message sp roots rs ss o in
+    gathered_are hash c binding message sp roots rs ss o in
     let x : Reading = new_of h c binding message sp in
     let same_len : length ss ≡ length rs = less_len c.definition.redact rs ss o.taken.less in (
       ss ++ x ∷ [],

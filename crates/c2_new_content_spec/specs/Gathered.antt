@@ -11,9 +11,9 @@ use Rattle.c2_rules.specs.Chains.{is_reached}
 use Rattle.c2_rules.specs.Readings.{AreReadings, Reading}
 use Rattle.c2_chain_spec.specs.Rooted.{is_reached_from}
 use Rattle.c2_definition.specs.declared.types.NewAssertion.{NewAssertion}
-use Rattle.c2_new_store_spec.specs.Store.{Content, NewIngredient, new_alg, new_claim, new_store}
-use Rattle.c2_new_store_spec.specs.Unbound.{IsKnownBinding, MeetsUnbound}
-use Rattle.c2_new_store_spec.specs.Written.{AreIngredients, CanBeWritten}
+use Rattle.c2_new_file_spec.specs.Store.{Content, NewIngredient, new_alg, new_claim, new_store}
+use Rattle.c2_new_file_spec.specs.Unbound.{IsKnownBinding, MeetsUnbound}
+use Rattle.c2_new_file_spec.specs.Written.{AreIngredients, CanBeWritten}
 use Rattle.c2_new_content_spec.specs.Taken.{IsRoot, IsTakenFrom, questions_from}
 
 -- A new store that takes over a chain and has an ingredient for each of its roots, in their order: the definition can be written, the
@@ -27,8 +27,8 @@ pub record IsOverRoots (hash : Alg → List ℕ → List ℕ) (c : Content) (bin
   pub taken : IsTakenFrom hash c.definition c.carried roots rs ss
   pub named : AllZip (λ (g : NewIngredient) root. IsRoot rs ss g.of root) c.ingredients roots
 
--- Such a store meets each rule but the verdict on its message and the one on its binding, and asks the new question and then those of
--- what is reached from the roots.
+-- A new store over roots meets each rule but the verdict on its message and the one on its binding, and asks the new question and then
+-- those of what is reached from the roots.
 abbrev pub GatheredStoreMeets : Type 0
 GatheredStoreMeets = (hash : Alg → List ℕ → List ℕ) (c : Content) (binding : NewAssertion) (message : List ℕ) (p : SignParts) (roots : List ℕ) (rs ss : List Reading)
     → IsOverRoots hash c binding message p roots rs ss
@@ -42,7 +42,7 @@ pub record ReachesRoots (rs : List Reading) (roots : List ℕ) (all : List Readi
   pub older : (i : ℕ) → i < length rs → is_reached all i ≡ is_reached_from rs roots i
   pub new : is_reached all (length rs) ≡ true
 
--- So it is in such a store, whose manifests come to such readings.
+-- A new store over roots reaches its new manifest and what is reached from the roots, in the readings that its manifests come to.
 abbrev pub GatheredStoreReaches : Type 0
 GatheredStoreReaches = (hash : Alg → List ℕ → List ℕ) (c : Content) (binding : NewAssertion) (message : List ℕ) (p : SignParts) (roots : List ℕ) (rs ss : List Reading)
     → IsOverRoots hash c binding message p roots rs ss

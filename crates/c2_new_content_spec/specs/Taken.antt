@@ -13,11 +13,11 @@ use Rattle.c2_rules.specs.Seen.{signature_contents}
 use Rattle.c2_rules.specs.Tests.{downward}
 use Rattle.c2_chain_spec.specs.Rooted.{IsRooted, is_reached_from}
 use Rattle.c2_definition.specs.declared.types.Definition.{Definition}
-use Rattle.c2_new_store_spec.specs.Manifests.{manifest_of, supers_in}
-use Rattle.c2_new_store_spec.specs.Store.{NamedManifest}
-use Rattle.c2_new_store_spec.specs.Written.{CanBeCarried}
-use Rattle.c2_parent_spec.specs.Carrying.{RedactionsPass}
-use Rattle.c2_parent_spec.specs.Less.{AreLess, CanRedactBy}
+use Rattle.c2_new_file_spec.specs.Manifests.{manifest_of, supers_in}
+use Rattle.c2_new_file_spec.specs.Store.{NamedManifest}
+use Rattle.c2_new_file_spec.specs.Written.{CanBeCarried}
+use Rattle.c2_new_file_spec.specs.Carrying.{RedactionsPass}
+use Rattle.c2_new_file_spec.specs.Less.{AreLess, CanRedactBy}
 
 -- A chain `rs` that is seen from roots is taken over: the carried boxes can be, and are read as `ss`, the same less what is redacted;
 -- all rules but the verdicts hold of what is reached from the roots; and the redactions may be made.
@@ -44,6 +44,6 @@ pub record IsRoot (rs ss : List Reading) (p : NamedManifest) (root : ℕ) : Type
 abbrev pub question_from : List Reading → List ℕ → ℕ → List Question
 question_from rs roots i = if is_reached_from rs roots i then questions_of (slice_get rs i) else []
 
--- those of all manifests that are reached from roots, the last first
+-- the questions of all manifests that are reached from roots, the last first
 abbrev pub questions_from : List Reading → List ℕ → List Question
 questions_from rs roots = downward (question_from rs roots) (length rs)

@@ -1,40 +1,93 @@
--- A file has one place, and one file is left of a media file.
-use Rattle.std.proofs.Common.{◌≡◌, ℕ, Bool, true, false, List, Option, sym, ap, ◌∙◌}
-use Rattle.std.specs.Bool.{MatchBool}
-use Rattle.c2_spec.specs.Bmff.Boxes.{Box, HasRoots}
-use Rattle.c2_spec.specs.Container.{is_bmff}
-use Rattle.c2_spec.specs.Jpeg.Places.{HasNumber, IsOfSegments}
-use Rattle.c2_spec.specs.Jpeg.Segments.{Segment}
-use Rattle.c2_spec.specs.PutIn.{taken_out}
-use Rattle.c2_bmff_insert_spec.specs.Laws.{BaseIsOne}
-use Rattle.c2_new_file_spec.specs.Bases.{IsLeftOfBoxes}
-use Rattle.c2_new_file_spec.specs.Laws.{OneLeft, OnePlace}
-use Rattle.c2_new_file_spec.specs.Places.{in_boxes, in_segments}
+-- The parent of a new manifest is one, and so is what goes into a new store over an older one; and what is left of a JPEG file
+-- without its store has none.
+use Rattle.std.proofs.Common.{◌≡◌, ℕ, ◌+◌, false, List, [], ◌∷◌, ◌++◌, length, take, drop, find, sym, ap, ◌∙◌, subst, arith, append_assoc, length-append}
+use Rattle.std.proofs.lemmas.List.{take_at, drop_at}
+use Rattle.std.proofs.lemmas.List.Concat.{flat_map-append}
+use Rattle.std.proofs.lemmas.Option.{same_Some}
+use Rattle.std.specs.List.{flat_map, AllByRecursion}
+use Rattle.c2_spec.specs.Jpeg.Packets.{is_store_start}
+use Rattle.c2_spec.specs.Jpeg.Segments.{Segment, IsSegment, segment_bytes, place_after, start_of_image}
+use Rattle.c2_spec.specs.Jumbf.Boxes.{node, any_label}
+use Rattle.c2_spec.specs.Jumbf.Tree.{Tree, Trees}
+use Rattle.c2_definition.specs.declared.types.Definition.{Definition}
+use Rattle.c2_new_file_spec.specs.FreshBoxes.{contents_of}
+use Rattle.c2_new_file_spec.specs.Manifests.{is_signature_box, supers_in, supers_of}
+use Rattle.c2_new_file_spec.specs.Store.{NamedManifest, NewIngredient, parent_ingredient}
+use Rattle.c2_new_file_spec.specs.Carrying.{BaseHasNoStore, ContentIsOne, ParentIsOne}
+use Rattle.c2_new_file_spec.specs.Parents.{IsParentOf}
+use Rattle.c2_lemmas.proofs.Each.{each_append, each_back, each_front}
 
--- What laws of other crates say: a file is one list of segments, one number is free in it or none, and it has one list of root boxes.
-pub record OneLaws : Type 0 where
-  pub list : (file : List ℕ) (xs ys : List Segment) → IsOfSegments file xs → IsOfSegments file ys → xs ≡ ys
-  pub number : (file : List ℕ) (m n : Option ℕ) → HasNumber file m → HasNumber file n → m ≡ n
-  pub roots : (file : List ℕ) (xs ys : List Box) → HasRoots file xs → HasRoots file ys → xs ≡ ys
+-- the parent is one
+pub parent_one : ParentIsOne
+parent_one ms p q a b =
+    let active : a.active ≡ b.active = same_Some a.active b.active (sym a.is_active ∙ b.is_active) in
+    let label : p.label ≡ q.label =
+    same_Some p.label q.label (sym a.label ∙ ap (λ (x : Tree). any_label (node x)) active ∙ b.label) in
+    let contents : p.contents ≡ q.contents = sym a.contents ∙ ap contents_of active ∙ b.contents in
+    let box : a.signature ≡ b.signature =
+    same_Some a.signature b.signature
+    (sym a.is_signature ∙ ap (λ (x : Tree). find is_signature_box (supers_of x)) active ∙ b.is_signature) in
+    let signed : p.signed ≡ q.signed = sym a.signed ∙ ap contents_of box ∙ b.signed in
+    ap (λ (l : List ℕ). record { label = l; contents = p.contents; signed = p.signed }) label
+    ∙ ap (λ (c : List ℕ). record { label = q.label; contents = c; signed = p.signed }) contents
+    ∙ ap (λ (s : List ℕ). record { label = q.label; contents = q.contents; signed = s }) signed
 
--- no file has both containers
-pub not_both : {P : Type 0} (base : List ℕ) → is_bmff base ≡ false → is_bmff base ≡ true → P
-not_both {P} base one other = absurd (let bad : false ≡ true = sym one ∙ other in cc (bad))
+-- what goes into a new store is one
+pub content_one : ContentIsOne
+content_one d old b c h k =
+    let carried : b.carried ≡ c.carried = h.carried ∙ sym k.carried in
+    let parent : h.parent ≡ k.parent =
+    parent_one (supers_in c.carried) h.parent k.parent
+    (subst (λ (x : Trees). IsParentOf h.parent (supers_in x)) carried h.is_parent) k.is_parent in
+    ap (λ (x : Definition). record { definition = x; carried = b.carried; ingredients = b.ingredients })
+    (h.definition ∙ sym k.definition)
+    ∙ ap (λ (x : Trees). record { definition = c.definition; carried = x; ingredients = b.ingredients }) carried
+    ∙ ap (λ (x : List NewIngredient). record { definition = c.definition; carried = c.carried; ingredients = x })
+    (h.ingredients ∙ ap (λ (p : NamedManifest). parent_ingredient p ∷ []) parent ∙ sym k.ingredients)
 
--- so a file has one place
-pub one_place : OneLaws → OnePlace
-one_place l base (in_segments xs m) (in_segments ys n) h k =
-    let same : xs ≡ ys = l.list base xs ys h.1 k.1 in
-    let free : m ≡ n = l.number base m n (record { segments = xs; is_of = h.1; number_is = h.2 }) (record { segments = ys; is_of = k.1; number_is = k.2 }) in
-    ap (λ (ss : List Segment). in_segments ss m) same ∙ ap (in_segments ys) free
-one_place l base (in_segments xs m) (in_boxes bs) h k = not_both base h.0 k.0
-one_place l base (in_boxes bs) (in_segments xs m) h k = not_both base k.0 h.0
-one_place l base (in_boxes bs) (in_boxes cs) h k = ap in_boxes (l.roots base bs cs h.1 k.1)
-
--- one file is left
-pub one_left : BaseIsOne → OneLeft
-one_left law media start len a b h k = go (is_bmff media) h k
+-- what is left of a file without its store
+pub base_is : BaseHasNoStore
+base_is media start len store h =
+    let o = h.holds in
+    let run : List Segment = o.first ∷ o.others in
+    let f : List ℕ = start_of_image ++ flat_map segment_bytes o.before in
+    let m : List ℕ = flat_map segment_bytes run in
+    let b : List ℕ = flat_map segment_bytes o.after ++ h.rest in
+    let all : flat_map segment_bytes h.segments ≡ flat_map segment_bytes o.before ++ (m ++ flat_map segment_bytes o.after) =
+    ap (flat_map segment_bytes) o.split ∙ flat_map-append segment_bytes o.before (run ++ o.after) ∙ ap (λ (x : List ℕ). flat_map segment_bytes o.before ++ x) (flat_map-append segment_bytes run o.after) in
+    let whole : media ≡ f ++ (m ++ b) =
+    h.begins.bytes ∙ ap (λ (x : List ℕ). start_of_image ++ x ++ h.rest) all
+    ∙ ap (λ (x : List ℕ). x ++ h.rest)
+    (sym (append_assoc start_of_image (flat_map segment_bytes o.before) (m ++ flat_map segment_bytes o.after)))
+    ∙ append_assoc f (m ++ flat_map segment_bytes o.after) h.rest ∙ ap (λ (x : List ℕ). f ++ x) (append_assoc m (flat_map segment_bytes o.after) h.rest) in
+    let n : length f ≡ start = place_is o.before ∙ sym o.from in
+    let nm : length (f ++ m) ≡ start + len =
+    length-append f m ∙ ap (λ k. k + length m) n ∙ ap (λ k. start + k) (sym o.for) in
+    let front : take start media ≡ f = ap (take start) whole ∙ take_at f (m ++ b) start n in
+    let back : drop (start + len) media ≡ b =
+    ap (drop (start + len)) (whole ∙ sym (append_assoc f m b)) ∙ drop_at (f ++ m) b (start + len) nm in
+    let left : take start media ++ drop (start + len) media ≡ f ++ b =
+    ap (λ (x : List ℕ). x ++ drop (start + len) media) front ∙ ap (λ (x : List ℕ). f ++ x) back in
+    let legal : AllByRecursion IsSegment (o.before ++ (run ++ o.after)) =
+    subst (AllByRecursion IsSegment) o.split h.begins.each in
+    record {
+      segments = o.before ++ o.after;
+      is_of = record {
+        fits =
+            omega
+            (arith, h.fits, ap length whole, ap length left, length-append f (m ++ b), length-append m b, length-append f b);
+        rest = h.rest;
+        begins = record {
+          bytes = left ∙ sym (append_assoc f (flat_map segment_bytes o.after) h.rest)
+              ∙ ap (λ (x : List ℕ). x ++ h.rest) (append_assoc start_of_image (flat_map segment_bytes o.before) (flat_map segment_bytes o.after) ∙ ap (λ (x : List ℕ). start_of_image ++ x) (sym (flat_map-append segment_bytes o.before o.after)));
+          each =
+              each_append IsSegment o.before o.after (each_front IsSegment o.before (run ++ o.after) legal)
+              (each_back IsSegment run o.after (each_back IsSegment o.before (run ++ o.after) legal));
+        };
+        ends = h.ends;
+      };
+      none = each_append (λ s. is_store_start s ≡ false) o.before o.after o.none_before o.none_after;
+    }
   where
-    go : (t : Bool) → MatchBool t (IsLeftOfBoxes media a) (a ≡ taken_out start len media) → MatchBool t (IsLeftOfBoxes media b) (b ≡ taken_out start len media) → a ≡ b
-    go true x y = (law media a b x.0 y.0 x.1 y.1).0
-    go false x y = x ∙ sym y
+    place_is : (ss : List Segment) → length (start_of_image ++ flat_map segment_bytes ss) ≡ place_after ss
+    place_is ss = omega arith

@@ -1,5 +1,6 @@
 -- A media file has a place for a new store, and something is left of it without an older one.
-use Rattle.std.proofs.Common.{◌≡◌, ℕ, Bool, true, false, List, Option, refl, sym, ap, ap₂, ◌∙◌, subst}
+use Rattle.c2_jpegseg_segments.proofs.TheLaws.{place_and_number_are_one_each}
+use Rattle.std.proofs.Common.{◌≡◌, ℕ, Bool, true, false, List, refl, sym, ap, ap₂, ◌∙◌, subst}
 use Rattle.std.specs.Bool.{MatchBool}
 use Rattle.std.specs.List.{flat_map}
 use Rattle.c2_spec.specs.Bmff.Boxes.{Box, HasRoots, box_bytes}
@@ -10,56 +11,45 @@ use Rattle.c2_spec.specs.Jpeg.Places.{IsOfSegments}
 use Rattle.c2_spec.specs.Jpeg.Segments.{Segment}
 use Rattle.c2_spec.specs.Jpeg.Store as jpeg
 use Rattle.c2_spec.specs.Jpeg.Store.{NoneBegins}
-use Rattle.c2_spec.specs.Jpeg.Writing.{IsNumberOf}
 use Rattle.c2_spec.specs.Jumbf.Tree.{Tree}
 use Rattle.c2_spec.specs.Located.{Located, Opening, absent, here, refused}
 use Rattle.c2_spec.specs.PutIn.{taken_out}
 use Rattle.c2_rules.specs.Opened.{IsBoxTree, IsManifestStore, IsManifestTree, IsOpened, Opens}
 use Rattle.c2_rules.proofs.JpegMedia.{no_bmff}
 use Rattle.c2_bmff_insert_spec.specs.Laws as boxed
-use Rattle.c2_parent_spec.specs.Carrying.{BaseHasNoStore}
-use Rattle.c2_new_bmff_spec.specs.Films.{AreOthers}
-use Rattle.c2_new_bmff_spec.proofs.Media.{base_media}
+use Rattle.c2_new_file_spec.specs.Carrying.{BaseHasNoStore}
+use Rattle.c2_new_file_spec.specs.Films.{AreOthers}
+use Rattle.c2_new_file_spec.proofs.Media.{base_media}
 use Rattle.c2_new_file_spec.specs.Bases.{IsLeftOfBoxes}
 use Rattle.c2_new_file_spec.specs.Laws.{FreshHasPlace, LeftHasContainer, LeftHasPlace, SomeLeft}
 use Rattle.c2_new_file_spec.specs.Places.{IsFreePlace, Place, in_boxes, in_segments}
+use Rattle.c2_rules.proofs.OpenedStore.{located_absent}
 
 -- ---- a place
 
--- of each list of segments one number is free, or none
-abbrev pub SomeNumber : Type 0
-SomeNumber = (segments : List Segment) → (o : Option ℕ) × IsNumberOf segments o
-
--- so a file of segments has a place
-of_segments : SomeNumber → (base : List ℕ) (segments : List Segment) → IsOfSegments base segments → NoneBegins segments → (p : Place) × IsFreePlace base p
-of_segments some base segments is none =
-    let number = some segments in
+-- a file of segments without a store has a place for one
+of_segments : (base : List ℕ) (segments : List Segment) → IsOfSegments base segments → NoneBegins segments
+    → (p : Place) × IsFreePlace base p
+of_segments base segments is none =
+    let number = place_and_number_are_one_each segments in
     (in_segments segments number.0, record { is = (no_bmff base segments is.rest is.begins, is, number.1); free = none })
 
--- and a file of root boxes
-of_boxes : (base : List ℕ) (roots : List Box) → is_bmff base ≡ true → HasRoots base roots → AreOthers roots → (p : Place) × IsFreePlace base p
+-- a file of root boxes without a store has a place for one
+of_boxes : (base : List ℕ) (roots : List Box) → is_bmff base ≡ true → HasRoots base roots → AreOthers roots
+    → (p : Place) × IsFreePlace base p
 of_boxes base roots film has others = (in_boxes roots, record { is = (film, has); free = others })
 
 -- ---- how a media file is located
 
--- a file has no store where it is opened as one without
-located_absent : (l : Located) → Opens IsManifestStore l absent → l ≡ absent
-located_absent (refused reason number) h = absurd (cc (h))
-located_absent absent h = refl
-located_absent (here start len store) h = absurd (by h.0 h.1 h.2)
-  where
-    by : (tree : Opening Tree) → IsBoxTree start len store tree → Opens IsManifestTree tree absent → ⊥
-    by (refused reason number) a b = cc (b)
-    by absent a b = a
-    by (here at count t) a b = b
-
--- it has one in a range where it is opened so
-located_here : (l : Located) (start len : ℕ) (t : Tree) → Opens IsManifestStore l (here start len t) → (store : List ℕ) × (l ≡ here start len store)
+-- a file has a store in a range where it is opened so
+pub located_here : (l : Located) (start len : ℕ) (t : Tree) → Opens IsManifestStore l (here start len t)
+    → (store : List ℕ) × (l ≡ here start len store)
 located_here (refused reason number) start len t h = absurd (cc (h))
 located_here absent start len t h = absurd (cc (h))
 located_here (here at n store) start len t h = (store, by h.0 h.1 h.2)
   where
-    by : (tree : Opening Tree) → IsBoxTree at n store tree → Opens IsManifestTree tree (here start len t) → here at n store ≡ here start len store
+    by : (tree : Opening Tree) → IsBoxTree at n store tree → Opens IsManifestTree tree (here start len t)
+        → here at n store ≡ here start len store
     by (refused reason number) a b = absurd (cc (b))
     by absent a b = absurd a
     by (here place count u) a b =
@@ -77,15 +67,18 @@ is_stored media start len t o =
 -- ---- places
 
 -- a media file without a store has a place for one
-pub fresh_place : SomeNumber → FreshHasPlace
-fresh_place some media o = go (is_bmff media) refl (subst (IsLocated media) (located_absent o.0 o.2) o.1)
+pub fresh_place : FreshHasPlace
+fresh_place media o = go (is_bmff media) refl (subst (IsLocated media) (located_absent o.0 o.2) o.1)
   where
-    go : (t : Bool) → is_bmff media ≡ t → MatchBool t (HasNoBmffStore media) (jpeg.HasNoJpegStore media) → (p : Place) × IsFreePlace media p
+    go : (t : Bool) → is_bmff media ≡ t → MatchBool t (HasNoBmffStore media) (jpeg.HasNoJpegStore media)
+        → (p : Place) × IsFreePlace media p
     go true is h = of_boxes media h.roots is h.has_roots h.none
-    go false is h = of_segments some media h.segments (record { fits = h.fits; rest = h.rest; begins = h.begins; ends = h.ends }) h.none
+    go false is h =
+        of_segments media h.segments (record { fits = h.fits; rest = h.rest; begins = h.begins; ends = h.ends }) h.none
 
 -- the base of a BMFF file with a store
-base_of : (media : List ℕ) (start len : ℕ) (store : List ℕ) → HasBmffStore media start len store → (base : List ℕ) × IsLeftOfBoxes media base
+base_of : (media : List ℕ) (start len : ℕ) (store : List ℕ) → HasBmffStore media start len store
+    → (base : List ℕ) × IsLeftOfBoxes media base
 base_of media start len store h =
     let s = h.holds in
     let roots : List Box = base_roots s.before s.holder s.after in
@@ -95,7 +88,9 @@ base_of media start len store h =
 pub some_left : SomeLeft
 some_left media start len t o = go (is_bmff media) (is_stored media start len t o)
   where
-    go : (b : Bool) → ((store : List ℕ) × MatchBool b (HasBmffStore media start len store) (jpeg.HasJpegStore media start len store)) → (base : List ℕ) × MatchBool b (IsLeftOfBoxes media base) (base ≡ taken_out start len media)
+    go : (b : Bool)
+        → ((store : List ℕ) × MatchBool b (HasBmffStore media start len store) (jpeg.HasJpegStore media start len store))
+        → (base : List ℕ) × MatchBool b (IsLeftOfBoxes media base) (base ≡ taken_out start len media)
     go true h = base_of media start len h.0 h.1
     go false h = (taken_out start len media, refl)
 
@@ -103,22 +98,27 @@ some_left media start len t o = go (is_bmff media) (is_stored media start len t 
 pub left_container : boxed.BaseHasNoStore → BaseHasNoStore → LeftHasContainer
 left_container boxes segments media start len t base o left = go (is_bmff media) refl (is_stored media start len t o) left
   where
-    go : (b : Bool) → is_bmff media ≡ b → ((store : List ℕ) × MatchBool b (HasBmffStore media start len store) (jpeg.HasJpegStore media start len store)) → MatchBool b (IsLeftOfBoxes media base) (base ≡ taken_out start len media)
+    go : (b : Bool) → is_bmff media ≡ b
+        → ((store : List ℕ) × MatchBool b (HasBmffStore media start len store) (jpeg.HasJpegStore media start len store))
+        → MatchBool b (IsLeftOfBoxes media base) (base ≡ taken_out start len media)
         → is_bmff base ≡ is_bmff media
     go true is h k = base_media media base k.0 k.1 (boxes media base k.0 k.1).0 is ∙ sym is
     go false is h k =
         let free = segments media start len h.0 h.1 in
         ap is_bmff k ∙ no_bmff (taken_out start len media) free.segments free.is_of.rest free.is_of.begins ∙ sym is
 
--- and has a place for another
-pub left_place : SomeNumber → boxed.BaseHasNoStore → BaseHasNoStore → LeftHasPlace
-left_place some boxes segments media start len t base o left = go (is_bmff media) refl (is_stored media start len t o) left
+-- what is left of a media file with a store has a place for another
+pub left_place : boxed.BaseHasNoStore → BaseHasNoStore → LeftHasPlace
+left_place boxes segments media start len t base o left = go (is_bmff media) refl (is_stored media start len t o) left
   where
-    go : (b : Bool) → is_bmff media ≡ b → ((store : List ℕ) × MatchBool b (HasBmffStore media start len store) (jpeg.HasJpegStore media start len store)) → MatchBool b (IsLeftOfBoxes media base) (base ≡ taken_out start len media)
+    go : (b : Bool) → is_bmff media ≡ b
+        → ((store : List ℕ) × MatchBool b (HasBmffStore media start len store) (jpeg.HasJpegStore media start len store))
+        → MatchBool b (IsLeftOfBoxes media base) (base ≡ taken_out start len media)
         → (p : Place) × IsFreePlace base p
     go true is h k =
         let has = boxes media base k.0 k.1 in
         of_boxes base k.0 (base_media media base k.0 k.1 has.0 is) has.0 has.1
     go false is h k =
         let free = segments media start len h.0 h.1 in
-        subst (λ (b : List ℕ). (p : Place) × IsFreePlace b p) (sym k) (of_segments some (taken_out start len media) free.segments free.is_of free.none)
+        subst (λ (b : List ℕ). (p : Place) × IsFreePlace b p) (sym k)
+        (of_segments (taken_out start len media) free.segments free.is_of free.none)

@@ -5,9 +5,9 @@ use Rattle.c2_spec.specs.Digest.{digest_len}
 use Rattle.c2_spec.specs.Jumbf.Tree.{Tree, tree_bytes}
 use Rattle.c2_spec.specs.Located.{absent, here}
 use Rattle.c2_rules.specs.Opened.{IsOpened}
-use Rattle.c2_new_store_spec.specs.Built.{HasDigestLen}
-use Rattle.c2_new_store_spec.specs.Store.{Content, new_store, new_alg}
-use Rattle.c2_new_store_spec.specs.Unbound.{IsKnownBinding}
+use Rattle.c2_new_file_spec.specs.Built.{HasDigestLen}
+use Rattle.c2_new_file_spec.specs.Store.{Content, new_store, new_alg}
+use Rattle.c2_new_file_spec.specs.Unbound.{IsKnownBinding}
 use Rattle.c2_new_file_spec.specs.Bases.{IsLeft}
 use Rattle.c2_new_file_spec.specs.Places.{IsFreePlace, IsPlace, Place, binding_with, store_len}
 use Rattle.c2_spec.specs.declared.digest.Alg.{Alg}
@@ -28,7 +28,7 @@ FreshHasPlace = (media : List ℕ) → IsOpened media absent → (p : Place) × 
 abbrev pub SomeLeft : Type 0
 SomeLeft = (media : List ℕ) (start len : ℕ) (t : Tree) → IsOpened media (here start len t) → (base : List ℕ) × IsLeft media start len base
 
--- and has a place for another
+-- what is left of a media file with a store has a place for another store
 abbrev pub LeftHasPlace : Type 0
 LeftHasPlace = (media : List ℕ) (start len : ℕ) (t : Tree) (base : List ℕ) → IsOpened media (here start len t) → IsLeft media start len base
     → (p : Place) × IsFreePlace base p
@@ -44,6 +44,6 @@ PlaceSizeIsFixed = (hash : List ℕ → List ℕ) (c : Content) (p : Place) (len
     → HasDigestLen (new_alg c.definition) hash → length digest ≡ digest_len (new_alg c.definition)
     → length (tree_bytes (new_store hash c (binding_with (new_alg c.definition) p len digest) message)) ≡ store_len p c (length message)
 
--- Its binding is of a kind that is known.
+-- The binding of a new store is of a kind that is known.
 abbrev pub BindingsAreKnown : Type 0
 BindingsAreKnown = (alg : Alg) (p : Place) (len : ℕ) (digest : List ℕ) → IsKnownBinding (binding_with alg p len digest)

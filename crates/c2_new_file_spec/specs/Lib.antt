@@ -1,3 +1,16 @@
+pub mod FreshBoxes
+pub mod Store
+pub mod Manifests
+pub mod Written
+pub mod Built
+pub mod Fresh
+pub mod Unbound
+pub mod Redacting
+pub mod Refusing
+pub mod Parents
+pub mod Less
+pub mod Carrying
+pub mod Films
 pub mod Places
 pub mod Bases
 pub mod Laws

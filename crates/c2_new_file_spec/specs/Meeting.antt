@@ -12,12 +12,12 @@ use Rattle.c2_rules.specs.CheckList.{IsValid, StoreReading, questions}
 use Rattle.c2_rules.specs.Opened.{IsOpened}
 use Rattle.c2_rules.specs.Validated.{IsFileReading}
 use Rattle.c2_definition.specs.declared.types.Definition.{Definition}
-use Rattle.c2_new_store_spec.specs.Built.{HasDigestLen}
-use Rattle.c2_new_store_spec.specs.Fresh.{GivesDigests, IsFresh, Meets}
-use Rattle.c2_new_store_spec.specs.Store.{Content, new_alg}
-use Rattle.c2_new_store_spec.specs.Written.{CanBeWritten}
-use Rattle.c2_parent_spec.specs.Parents.{IsContentOver}
-use Rattle.c2_parent_spec.specs.Refusing.{has_manifest, redaction_refusal}
+use Rattle.c2_new_file_spec.specs.Built.{HasDigestLen}
+use Rattle.c2_new_file_spec.specs.Fresh.{GivesDigests, IsFresh, MeetsTheRules}
+use Rattle.c2_new_file_spec.specs.Store.{Content, new_alg}
+use Rattle.c2_new_file_spec.specs.Written.{CanBeWritten}
+use Rattle.c2_new_file_spec.specs.Parents.{IsContentOver}
+use Rattle.c2_new_file_spec.specs.Refusing.{has_manifest, redaction_refusal}
 use Rattle.c2_new_file_spec.specs.Bases.{IsLeft}
 use Rattle.c2_new_file_spec.specs.Places.{CanPut, Place, place_file, place_question, place_start, place_store, put_bytes, range_len}
 
@@ -27,7 +27,7 @@ abbrev pub FreshPlaceMeets : Type 0
 FreshPlaceMeets = (hash : Alg → List ℕ → List ℕ) (c : Content) (message base bytes : List ℕ) (p : Place) (parts : SignParts)
     → GivesDigests hash → IsFresh c → CanBeWritten c.definition → CanPut c (length message) base p → SpellsMessage message parts
     → put_bytes p (tree_bytes (place_store (hash (new_alg c.definition)) c message base p)) ≡ Some bytes
-    → Meets hash (place_file base p bytes) (place_start p) (range_len p c (length message)) (place_store (hash (new_alg c.definition)) c message base p)
+    → MeetsTheRules hash (place_file base p bytes) (place_start p) (range_len p c (length message)) (place_store (hash (new_alg c.definition)) c message base p)
     (place_question (hash (new_alg c.definition)) c (length message) base p parts ∷ [])
 
 -- A media file with a store in this range that a new store of this definition may be built over: the file is valid, as judges find who
@@ -47,7 +47,7 @@ OverPlaceMeets = (hash : Alg → List ℕ → List ℕ) (said : Question → Ver
     → GivesDigests hash → CanSucceedAt hash said media start len old s d → CanBeWritten d → IsContentOver d old c → IsLeft media start len base
     → CanPut c (length message) base p → SpellsMessage message parts
     → put_bytes p (tree_bytes (place_store (hash (new_alg c.definition)) c message base p)) ≡ Some bytes
-    → Meets hash (place_file base p bytes) (place_start p) (range_len p c (length message)) (place_store (hash (new_alg c.definition)) c message base p)
+    → MeetsTheRules hash (place_file base p bytes) (place_start p) (range_len p c (length message)) (place_store (hash (new_alg c.definition)) c message base p)
     (place_question (hash (new_alg c.definition)) c (length message) base p parts ∷ questions s.readings)
 
 -- Less the new range, the file is what it was.

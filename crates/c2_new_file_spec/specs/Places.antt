@@ -17,9 +17,9 @@ use Rattle.c2_spec.specs.Jpeg.Writing as jpeg
 use Rattle.c2_spec.specs.Jumbf.Tree.{Tree}
 use Rattle.c2_spec.specs.PutIn.{put_in}
 use Rattle.c2_definition.specs.declared.types.NewAssertion.{NewAssertion}
-use Rattle.c2_new_store_spec.specs.Built.{built_len, store_size}
-use Rattle.c2_new_store_spec.specs.Store.{Content, data_binding, new_claim, new_store, new_alg}
-use Rattle.c2_new_bmff_spec.specs.Films.{AreOthers, new_bmff_binding, bmff_len, bmff_store_size}
+use Rattle.c2_new_file_spec.specs.Built.{built_len, store_size}
+use Rattle.c2_new_file_spec.specs.Store.{Content, data_binding, new_claim, new_store, new_alg}
+use Rattle.c2_new_file_spec.specs.Films.{AreOthers, new_bmff_binding, bmff_len, bmff_store_size}
 use Rattle.c2_spec.specs.declared.digest.Alg.{Alg}
 
 -- ---- the place
@@ -104,7 +104,7 @@ abbrev pub HasRoom : Place → Type 0
 HasRoom (in_segments segments number) = (en : ℕ) × (number ≡ Some en)
 HasRoom (in_boxes roots) = (bmff.open_end (placed_from 0 roots) ≡ None) × (length roots < most_roots)
 
--- A store can be put in there with so many bytes for its message: it isn't too large, nor is the new file.
+-- A store can be put in at this place of a base, with so many bytes for its message: the store isn't too large, nor is the new file.
 pub record CanPut (c : Content) (reserve : ℕ) (base : List ℕ) (p : Place) : Type 0 where
   pub place : IsFreePlace base p
   pub room : HasRoom p

@@ -1,13 +1,14 @@
-mod InFront
-mod Building
-mod Splits
-mod Meeting
-mod Staying
-pub mod Shifts
-pub mod Stages
-mod Order
-mod OneOutcome
-pub mod SomeOutcome
+pub mod Building
+pub mod InFront
 mod Made
-mod Unrefused
+mod Meeting
+mod OneOutcome
+pub mod Order
 mod Rows
+pub mod Shifts
+pub mod SomeOutcome
+mod Splits
+pub mod Stages
+mod Staying
+pub mod TheLaws
+mod Unrefused

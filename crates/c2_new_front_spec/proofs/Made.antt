@@ -1,4 +1,19 @@
 -- A file that a build comes to meets the rules, and has the bytes and the chunks of the media.
+use Rattle.c2_bmff_chunks.proofs.TheLaws.{chunk_places_stay_true}
+use Rattle.c2_bmff_chunks.proofs.TheLaws.{a_shifted_file_has_its_boxes_behind}
+use Rattle.c2_new_front_spec.proofs.Staying.{front_chunks}
+use Rattle.c2_bmff_chunks.proofs.TheLaws.{a_shifted_file_has_its_boxes_apart}
+use Rattle.c2_new_front_spec.proofs.Staying.{front_bytes}
+use Rattle.c2_new_front_spec.proofs.Order.{unrefused_can}
+use Rattle.c2_new_file_spec.proofs.ParentLaws.{redactions_that_pass_may_be_made_none}
+use Rattle.c2_new_front_spec.proofs.Order.{can_fresh}
+use Rattle.c2_new_content_spec.proofs.SplitLaws.{a_content_meets_the_rules_fresh}
+use Rattle.c2_new_content_spec.proofs.SplitLaws.{the_file_of_a_content_meets_the_rules}
+use Rattle.c2_new_front_spec.proofs.Splits.{front_split}
+use Rattle.c2_new_front_spec.proofs.Meeting.{fresh_front}
+use Rattle.c2_new_front_spec.proofs.Building.{front_is}
+use Rattle.c2_new_front_spec.proofs.Building.{front_has}
+use Rattle.c2_definition.proofs.TheLaws.{definitions_are_well_formed}
 use Rattle.std.proofs.Common.{◌≡◌, ◌⊎◌, inl, inr, ℕ, List, [], ◌∷◌, length, refl, sym, ap, ◌∙◌, subst}
 use Rattle.std.specs.Prelude.{Result, Ok, Err}
 use Rattle.c2_base.specs.declared.values.Question.{Question}
@@ -14,18 +29,18 @@ use Rattle.c2_pad.specs.Fill.{fill_pairs}
 use Rattle.c2_bmff_chunks.specs.Laws.{AreBytes}
 use Rattle.c2_definition.specs.declared.types.Definition.{Definition}
 use Rattle.c2_new_signature.specs.Signed.{IsSigned}
-use Rattle.c2_new_store_spec.specs.Built.{HasDigestLen}
-use Rattle.c2_new_store_spec.specs.Fresh.{GivesDigests, Meets, fresh_content}
-use Rattle.c2_new_store_spec.specs.Store.{Content, new_alg, new_claim}
-use Rattle.c2_new_store_spec.specs.Written.{CanBeWritten}
-use Rattle.c2_new_bmff_spec.specs.Films.{AreOthers, new_bmff_binding, bmff_len}
-use Rattle.c2_new_front_spec.specs.Fronts.{CanBuildFront, FrontHasItsStore, IsFrontBuilt, SomeFront, front_covered, front_store}
+use Rattle.c2_new_file_spec.specs.Built.{HasDigestLen}
+use Rattle.c2_new_file_spec.specs.Fresh.{GivesDigests, MeetsTheRules, fresh_content}
+use Rattle.c2_new_file_spec.specs.Store.{Content, new_alg, new_claim}
+use Rattle.c2_new_file_spec.specs.Written.{CanBeWritten}
+use Rattle.c2_new_file_spec.specs.Films.{AreOthers, new_bmff_binding, bmff_len}
+use Rattle.c2_new_front_spec.specs.Fronts.{CanBuildFront, IsFrontBuilt, front_covered, front_store}
 use Rattle.c2_new_front_spec.specs.Made.{BytesAreThere, ChunksAreThere, ChunksAreThereOrRefused, FrontMeets, HasTextsIn, MadeFrontMeets}
-use Rattle.c2_new_front_spec.specs.Meeting.{BytesOfFrontStay, ChunksOfFrontStay, FreshFrontMeets, front_question}
-use Rattle.c2_new_front_spec.specs.Order.{CanPlanFront, FrontRefusal, PlannedIsFresh, UnrefusedCanBePlanned, bmff_refusals, front_refusals, plan_refusals, reserve_refusals}
+use Rattle.c2_new_front_spec.specs.Meeting.{front_question}
+use Rattle.c2_new_front_spec.specs.Order.{CanPlanFront, FrontRefusal, bmff_refusals, front_refusals, plan_refusals, reserve_refusals}
 use Rattle.c2_new_front_spec.specs.Outcomes.{IsDefinitionStage, IsBmffStage, IsFrontMade, IsFrontPlanned, IsMediaStage, IsMessageStage, IsNewFile, IsPlannedIn, IsPlannedOver, NewFile, SomeFrontMade, front_signed, new_file}
 use Rattle.c2_new_front_spec.proofs.Shifts.{both_none}
-use Rattle.c2_new_front_spec.proofs.SomeOutcome.{AreWellFormed, FreeRoots, defined_of, free_roots, read_taken}
+use Rattle.c2_new_front_spec.proofs.SomeOutcome.{FreeRoots, defined_of, free_roots, read_taken}
 use Rattle.c2_new_front_spec.proofs.Stages.{passed, then_next, unless_passed, unless_passes}
 
 -- ---- what is known
@@ -36,9 +51,12 @@ record IsBmff (media : List ℕ) (what : Opening Tree) (roots : List Box) : Type
   has : HasRoots media roots
 
 -- root boxes that passed are those of a film of which nothing is refused
-bmff_of : (media : List ℕ) (what : Opening Tree) (roots : List Box) → IsBmffStage media what (Ok roots) → IsBmff media what roots
+bmff_of : (media : List ℕ) (what : Opening Tree) (roots : List Box) → IsBmffStage media what (Ok roots)
+    → IsBmff media what roots
 bmff_of media what roots h =
-    let p = unless_passed (bmff_refusals media what) (λ r. (boxes : List Box) × HasRoots media boxes × (r ≡ Ok boxes)) roots h in
+    let p =
+    unless_passed (bmff_refusals media what) (λ r. (boxes : List Box) × HasRoots media boxes × (r ≡ Ok boxes))
+    roots h in
     let same : p.1.0 ≡ roots = cc (p.1.2) in
     record { none = p.0; has = subst (HasRoots media) same p.1.1 }
 
@@ -57,15 +75,18 @@ record Known (hash : Alg → List ℕ → List ℕ) (media definition message : 
   is_signed : IsSigned parts d.reserve signed
   same : b ≡ new_file hash media roots d signed
 
--- so much is known
-known : (hash : Alg → List ℕ → List ℕ) (media definition message : List ℕ) (b : NewFile) → IsFrontMade hash media definition message (Ok b) → Known hash media definition message b
+-- this much is known of a build that comes to a file
+known : (hash : Alg → List ℕ → List ℕ) (media definition message : List ℕ) (b : NewFile)
+    → IsFrontMade hash media definition message (Ok b) → Known hash media definition message b
 known hash media definition message b h =
     let one = passed (IsMediaStage media) _ b h in
     let two = passed (IsDefinitionStage definition) _ b one.next in
     let d : Definition = two.value in
     let three = passed (IsMessageStage d.protected message) _ b two.next in
     let four = passed (IsBmffStage media one.value) _ b three.next in
-    let five = unless_passed (front_refusals media four.value d three.value) (IsNewFile hash media d three.value four.value) b four.next in
+    let five =
+    unless_passed (front_refusals media four.value d three.value) (IsNewFile hash media d three.value four.value)
+    b four.next in
     let none = both_none (plan_refusals media four.value d) (reserve_refusals d three.value) five.0 in
     record {
       d = d;
@@ -85,7 +106,10 @@ known hash media definition message b h =
 -- ---- what is planned
 
 -- what is signed of the file is what is planned
-planned_of : (hash : Alg → List ℕ → List ℕ) (media definition message : List ℕ) (b : NewFile) (k : Known hash media definition message b) → IsFrontPlanned hash media definition (Ok (front_signed hash media k.roots k.d))
+planned_of :
+    (hash : Alg → List ℕ → List ℕ) (media definition message : List ℕ) (b : NewFile)
+    (k : Known hash media definition message b)
+    → IsFrontPlanned hash media definition (Ok (front_signed hash media k.roots k.d))
 planned_of hash media definition message b k =
     let r : Result (List ℕ) FrontRefusal = Ok (front_signed hash media k.roots k.d) in
     then_next (IsMediaStage media) (IsPlannedOver hash media definition) k.what r k.is_media
@@ -96,10 +120,13 @@ planned_of hash media definition message b k =
 -- the new claim, where so many bytes are reserved
 abbrev claim_for : (Alg → List ℕ → List ℕ) → List ℕ → List Box → Definition → ℕ → List ℕ
 claim_for hash media roots d n =
-    new_claim (hash (new_alg d)) (fresh_content d) (new_bmff_binding (new_alg d) (hash (new_alg d) (front_covered (bmff_len (fresh_content d) n) media roots)))
+    new_claim (hash (new_alg d)) (fresh_content d)
+    (new_bmff_binding (new_alg d) (hash (new_alg d) (front_covered (bmff_len (fresh_content d) n) media roots)))
 
 -- the bytes that the new question is about are those
-same_signed : (hash : Alg → List ℕ → List ℕ) (media : List ℕ) (roots : List Box) (d : Definition) (n : ℕ) (parts : SignParts) → parts.protected ≡ d.protected → n ≡ d.reserve
+same_signed :
+    (hash : Alg → List ℕ → List ℕ) (media : List ℕ) (roots : List Box) (d : Definition) (n : ℕ) (parts : SignParts)
+    → parts.protected ≡ d.protected → n ≡ d.reserve
     → front_signed hash media roots d ≡ (front_question (hash (new_alg d)) (fresh_content d) n media roots parts).tbs
 same_signed hash media roots d n parts protected filled =
     ap (λ (m : ℕ). deterministic (sig_structure d.protected (claim_for hash media roots d m))) (sym filled)
@@ -107,62 +134,61 @@ same_signed hash media roots d n parts protected filled =
 
 -- ---- what the file meets
 
--- what laws of this crate and of others say
-pub record MetLaws : Type 0 where
-  pub formed : AreWellFormed
-  pub planned : UnrefusedCanBePlanned
-  pub fresh : PlannedIsFresh
-  pub some : SomeFront
-  pub holds : FrontHasItsStore
-  pub meets : FreshFrontMeets
-  pub chunks : ChunksOfFrontStay
-  pub bytes : BytesOfFrontStay
-
 -- a new file can be planned of what is known
-can_of : MetLaws → (hash : Alg → List ℕ → List ℕ) (media definition message : List ℕ) (b : NewFile) → AreBytes media → (k : Known hash media definition message b) → CanPlanFront media k.roots k.d
-can_of l hash media definition message b bytes k =
+can_of : (hash : Alg → List ℕ → List ℕ) (media definition message : List ℕ) (b : NewFile) → AreBytes media
+    → (k : Known hash media definition message b) → CanPlanFront media k.roots k.d
+can_of hash media definition message b bytes k =
     let film = bmff_of media k.what k.roots k.is_bmff_file in
     let free : FreeRoots media = free_roots media k.what k.is_media film.none in
-    let others : AreOthers k.roots = subst AreOthers (roots_once media free.roots k.roots free.has_roots film.has) free.others in
-    l.planned media k.roots k.d free.film bytes film.has others k.unrefused
+    let others : AreOthers k.roots =
+    subst AreOthers (roots_once media free.roots k.roots free.has_roots film.has) free.others in
+    unrefused_can media k.roots k.d free.film bytes film.has others k.unrefused
 
 -- the chunks of the media are in a built file
-chunks_of : MetLaws → (hash : List ℕ → List ℕ) (c : Content) (message media : List ℕ) (roots : List Box) (b : NewFile) → HasRoots media roots
+chunks_of : (hash : List ℕ → List ℕ) (c : Content) (message media : List ℕ) (roots : List Box) (b : NewFile)
+    → HasRoots media roots
     → IsFrontBuilt hash c message media b.file b.start b.len → ChunksAreThere media roots b
-chunks_of l hash c message media roots b has built =
-    subst (λ (boxes : List Box). ChunksAreThere media boxes b) (roots_once media built.roots roots built.movable.has_roots has)
-    (λ f v held is from within. l.chunks hash c message media b.file b.start b.len built f v held is from within)
+chunks_of hash c message media roots b has built =
+    subst (λ (boxes : List Box). ChunksAreThere media boxes b)
+    (roots_once media built.roots roots built.movable.has_roots has)
+    (λ f v held is from within. (front_chunks a_shifted_file_has_its_boxes_behind chunk_places_stay_true) hash c message media b.file b.start b.len built f v held is from within)
 
--- and so are its bytes
-bytes_of : MetLaws → (hash : List ℕ → List ℕ) (c : Content) (message media : List ℕ) (roots : List Box) (b : NewFile) → HasRoots media roots
+-- the bytes of the media are in a built file
+bytes_of : (hash : List ℕ → List ℕ) (c : Content) (message media : List ℕ) (roots : List Box) (b : NewFile)
+    → HasRoots media roots
     → IsFrontBuilt hash c message media b.file b.start b.len → BytesAreThere media roots b
-bytes_of l hash c message media roots b has built =
-    subst (λ (boxes : List Box). BytesAreThere media boxes b) (roots_once media built.roots roots built.movable.has_roots has)
-    (λ i within low. l.bytes hash c message media b.file b.start b.len built i within low)
+bytes_of hash c message media roots b has built =
+    subst (λ (boxes : List Box). BytesAreThere media boxes b)
+    (roots_once media built.roots roots built.movable.has_roots has)
+    (λ i within low. (front_bytes a_shifted_file_has_its_boxes_apart) hash c message media b.file b.start b.len built i within low)
 
 -- a file that is built meets all of it
-meets_of : MetLaws → (hash : Alg → List ℕ → List ℕ) (media definition message : List ℕ) (b : NewFile) → GivesDigests hash → HasTextsIn definition → AreBytes media → (k : Known hash media definition message b)
+meets_of : (hash : Alg → List ℕ → List ℕ) (media definition message : List ℕ) (b : NewFile) → GivesDigests hash
+    → HasTextsIn definition → AreBytes media → (k : Known hash media definition message b)
     → FrontMeets hash media definition message (new_file hash media k.roots k.d k.signed)
-meets_of l hash media definition message b digests texts bytes k =
+meets_of hash media definition message b digests texts bytes k =
     let d : Definition = k.d in
     let c : Content = fresh_content d in
     let h : List ℕ → List ℕ = hash (new_alg d) in
     let new : NewFile = new_file hash media k.roots d k.signed in
     let sized : HasDigestLen (new_alg d) h = λ text. (digests (new_alg d) text).sized in
     let has : HasRoots media k.roots = (bmff_of media k.what k.roots k.is_bmff_file).has in
-    let can : CanPlanFront media k.roots d = can_of l hash media definition message b bytes k in
+    let can : CanPlanFront media k.roots d = can_of hash media definition message b bytes k in
     let filled : length k.signed ≡ d.reserve = k.is_signed.filled in
-    let fits : CanBuildFront c (length k.signed) media k.roots = subst (λ (n : ℕ). CanBuildFront c n media k.roots) (sym filled) can.can in
+    let fits : CanBuildFront c (length k.signed) media k.roots =
+    subst (λ (n : ℕ). CanBuildFront c n media k.roots) (sym filled) can.can in
     let read : SignParts = padded_read k.parts (fill_pairs k.is_signed.fill) in
     let defined = defined_of definition d k.is_d in
-    let writable : CanBeWritten d = record { formed = l.formed definition d defined; texts = texts d defined } in
+    let writable : CanBeWritten d =
+    record { formed = definitions_are_well_formed definition d defined; texts = texts d defined } in
     let taken = read_taken d.protected message k.parts k.is_parts in
     let header : read.protected ≡ d.protected = taken.accepted.1.1.1.0 k.parts taken.spelled in
     let q : Question = front_question h c (length k.signed) media k.roots read in
     let store : Tree = front_store h c k.signed media k.roots in
-    let built : IsFrontBuilt h c k.signed media new.file new.start new.len = l.some h c k.signed media k.roots sized fits in
-    let meets : Meets hash new.file new.start new.len store (q ∷ []) =
-    l.meets hash c k.signed media k.roots read digests (l.fresh media k.roots d can) writable fits k.is_signed.spelled in
+    let built : IsFrontBuilt h c k.signed media new.file new.start new.len =
+    front_is h c k.signed media k.roots sized fits in
+    let meets : MeetsTheRules hash new.file new.start new.len store (q ∷ []) =
+    (fresh_front front_split the_file_of_a_content_meets_the_rules a_content_meets_the_rules_fresh) hash c k.signed media k.roots read digests ((can_fresh redactions_that_pass_may_be_made_none) media k.roots d can) writable fits k.is_signed.spelled in
     record {
       new = d;
       defined = defined;
@@ -178,19 +204,23 @@ meets_of l hash media definition message b digests texts bytes k =
       is = refl;
       question = q;
       meets = meets;
-      signed = subst (λ (x : List ℕ). IsFrontPlanned hash media definition (Ok x)) (same_signed hash media k.roots d (length k.signed) read header filled) (planned_of hash media definition message b k);
-      base = (l.holds h c k.signed media k.roots sized fits).left;
-      bytes = bytes_of l h c k.signed media k.roots new has built;
-      chunks = chunks_of l h c k.signed media k.roots new has built;
+      signed =
+          subst (λ (x : List ℕ). IsFrontPlanned hash media definition (Ok x))
+          (same_signed hash media k.roots d (length k.signed) read header filled)
+          (planned_of hash media definition message b k);
+      base = (front_has h c k.signed media k.roots sized fits).left;
+      bytes = bytes_of h c k.signed media k.roots new has built;
+      chunks = chunks_of h c k.signed media k.roots new has built;
     }
 
 -- what a build comes to meets all of it
-pub made_meets : MetLaws → MadeFrontMeets
-made_meets l hash media definition message b digests texts bytes h =
+pub made_meets : MadeFrontMeets
+made_meets hash media definition message b digests texts bytes h =
     let k = known hash media definition message b h in
-    subst (FrontMeets hash media definition message) (sym k.same) (meets_of l hash media definition message b digests texts bytes k)
+    subst (FrontMeets hash media definition message) (sym k.same)
+    (meets_of hash media definition message b digests texts bytes k)
 
--- so its chunks are there, or it comes to a refusal
+-- the chunks of the media are there in the built file, or the build comes to a refusal
 pub chunks_or_refused : SomeFrontMade → MadeFrontMeets → ChunksAreThereOrRefused
 chunks_or_refused some meets hash media definition message what opened digests texts bytes are =
     let r = some hash media definition message what opened are in by r.0 r.1

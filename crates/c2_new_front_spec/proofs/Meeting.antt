@@ -1,31 +1,26 @@
 -- The file with its new store in front meets the rules, by the laws of splits and of contents.
-use Rattle.std.proofs.Common.{◌≡◌, ℕ, true, cond, not, List, [], ◌∷◌, length, map, take, Option, Some, None, refl, ap, ◌∙◌, subst, arith, bytes_eq}
-use Rattle.std.proofs.lemmas.Bool.{and_from, and_parts}
+use Rattle.c2_bmff_chunks.proofs.TheLaws.{a_shifted_file_has_its_boxes_apart, a_shifted_file_has_its_boxes_roots, a_shifted_file_is_one_some}
+use Rattle.std.proofs.Common.{◌≡◌, ℕ, true, cond, List, [], ◌∷◌, length, map, Option, Some, None, refl, ap, ◌∙◌, subst, arith}
 use Rattle.c2_base.specs.declared.values.Question.{Question}
-use Rattle.c2_spec.specs.Bmff.Boxes.{Box, SizeForm, begins_bmff, box_bytes, is_to_end}
+use Rattle.c2_spec.specs.Bmff.Boxes.{Box, SizeForm, box_bytes, is_to_end}
 use Rattle.c2_spec.specs.Bmff.Writing.{c2pa_box}
 use Rattle.c2_spec.specs.C2pa.Sign1.{question_of}
-use Rattle.c2_spec.specs.Container.{begins_jpeg, is_bmff}
+use Rattle.c2_spec.specs.Container.{is_bmff}
 use Rattle.c2_spec.specs.Jumbf.Tree.{Tree, tree_bytes}
 use Rattle.c2_spec.specs.PutIn.{put_in}
 use Rattle.c2_spec.specs.declared.digest.Alg.{Alg}
-use Rattle.c2_bmff_chunks.specs.Laws.{HasShiftedRoots, RootsAreShifted, SomeShifted, TablesStandApart}
+use Rattle.c2_bmff_chunks.specs.Laws.{HasShiftedRoots}
 use Rattle.c2_bmff_chunks.specs.Shifted.{IsShifted}
-use Rattle.c2_new_store_spec.specs.Fresh.{Meets}
-use Rattle.c2_new_store_spec.specs.Store.{new_alg, new_claim, new_store}
-use Rattle.c2_new_bmff_spec.specs.Films.{new_bmff_binding, bmff_len, bmff_store_size}
+use Rattle.c2_new_file_spec.specs.Fresh.{MeetsTheRules}
+use Rattle.c2_new_file_spec.specs.Store.{new_alg, new_claim, new_store}
+use Rattle.c2_new_file_spec.specs.Films.{new_bmff_binding, bmff_len, bmff_store_size}
 use Rattle.c2_new_front_spec.specs.Fronts.{IsMovable, front_file, front_store, moved_media, moved_roots, tables_of}
 use Rattle.c2_new_front_spec.specs.InFront.{front_place, open_first, others_text}
 use Rattle.c2_new_front_spec.specs.Meeting.{FreshFrontMeets, front_question}
-use Rattle.c2_new_split_spec.specs.Contents.{ContentFileMeets, FreshContentMeets, content_store}
-use Rattle.c2_new_split_spec.specs.Splits.{HasRoomFor, split_text}
+use Rattle.c2_new_content_spec.specs.Contents.{ContentFileMeets, FreshContentMeets, content_store}
+use Rattle.c2_new_content_spec.specs.Splits.{HasRoomFor, split_text}
 use Rattle.c2_new_front_spec.specs.Splits.{FrontIsSplit, IsFrontSplit, front_split}
-
--- two files that begin alike
-same_media : (f g : List ℕ) → take 2 f ≡ take 2 g → is_bmff g ≡ true → begins_bmff f ≡ true → is_bmff f ≡ true
-same_media f g e h k =
-    let no : not (begins_jpeg g) ≡ true = (and_parts (not (begins_jpeg g)) (begins_bmff g) h).0 in
-    and_from (not (begins_jpeg f)) (begins_bmff f) (ap (λ (x : List ℕ). not (bytes_eq x (0xFF ∷ 0xD8 ∷ []))) e ∙ no) k
+use Rattle.c2_spec.proofs.Containers.{same_media}
 
 -- boxes in the same forms are open alike
 open_by : (xs ys : List Box) → map (λ (b : Box). b.form) xs ≡ map (λ (b : Box). b.form) ys → open_first ys ≡ None
@@ -39,30 +34,26 @@ open_by (x ∷ xs) (y ∷ ys) e h =
     heads : (a b : SizeForm) (xs ys : List SizeForm) → a ∷ xs ≡ b ∷ ys → a ≡ b
     heads a b xs ys e = cc (e)
 
--- what laws of other crates say of the media with moved places
-pub record ShiftLaws : Type 0 where
-  pub some : SomeShifted
-  pub apart : TablesStandApart
-  pub boxes : RootsAreShifted
-
--- it is the media shifted
-media_shifts : ShiftLaws → (len : ℕ) (media : List ℕ) (roots : List Box) → IsMovable media roots
+-- the media with moved places is the media shifted
+media_shifts : (len : ℕ) (media : List ℕ) (roots : List Box) → IsMovable media roots
     → IsShifted (front_place roots) len (tables_of media roots) media (moved_media len media roots)
-media_shifts laws len media roots m =
-    laws.some (front_place roots) len (tables_of media roots) media m.bytes (laws.apart media roots m.bytes m.has_roots m.unrefused)
+media_shifts len media roots m =
+    a_shifted_file_is_one_some (front_place roots) len (tables_of media roots) media m.bytes
+    (a_shifted_file_has_its_boxes_apart media roots m.bytes m.has_roots m.unrefused)
 
 -- the file is built over it, at the split behind the first root box of that
-pub fresh_front : ShiftLaws → FrontIsSplit → ContentFileMeets → FreshContentMeets → FreshFrontMeets
-fresh_front shifts is files fresh hash c message media roots parts digests is_fresh w can spells =
+pub fresh_front : FrontIsSplit → ContentFileMeets → FreshContentMeets → FreshFrontMeets
+fresh_front is files fresh hash c message media roots parts digests is_fresh w can spells =
     let alg : Alg = new_alg c.definition in
     let h : List ℕ → List ℕ = hash alg in
     let len : ℕ = bmff_len c (length message) in
     let base : List ℕ = moved_media len media roots in
     let moved : List Box = moved_roots len media roots in
     let m = can.movable in
-    let shifted : IsShifted (front_place roots) len (tables_of media roots) media base = media_shifts shifts len media roots m in
+    let shifted : IsShifted (front_place roots) len (tables_of media roots) media base =
+    media_shifts len media roots m in
     let boxes : HasShiftedRoots media base roots =
-    shifts.boxes (front_place roots) len media base roots m.bytes m.has_roots m.unrefused shifted in
+    a_shifted_file_has_its_boxes_roots (front_place roots) len media base roots m.bytes m.has_roots m.unrefused shifted in
     let film : is_bmff base ≡ true = same_media base media boxes.starts m.film boxes.has_roots.begins in
     let at : IsFrontSplit base moved = is base moved film boxes.has_roots (boxes.others m.none) in
     let room : HasRoomFor base (front_split moved) (bmff_store_size c (length message)) = record {
@@ -74,16 +65,17 @@ fresh_front shifts is files fresh hash c message media roots parts digests is_fr
     let text : split_text base (front_split moved) len ≡ others_text len moved = at.text len in
     let store : Tree = front_store h c message media roots in
     let met =
-    files hash c message base (box_bytes (c2pa_box (tree_bytes (content_store h c message base (front_split moved))))) (front_split moved) parts [] digests
+    files hash c message base (box_bytes (c2pa_box (tree_bytes (content_store h c message base (front_split moved)))))
+    (front_split moved) parts [] digests
     (fresh hash c message parts is_fresh w spells) (record { room = room; free = at.free }) refl in
     let piece : List ℕ = box_bytes (c2pa_box (tree_bytes store)) in
     let file : put_in (front_place moved) piece base ≡ front_file h c message media roots = cc (boxes.first) in
     let qs : List Question = front_question h c (length message) media roots parts ∷ [] in
-    subst (λ n. Meets hash (front_file h c message media roots) n len store qs) boxes.first
-    (subst (λ (f : List ℕ). Meets hash f (front_place moved) len store qs) file
+    subst (λ n. MeetsTheRules hash (front_file h c message media roots) n len store qs) boxes.first
+    (subst (λ (f : List ℕ). MeetsTheRules hash f (front_place moved) len store qs) file
     (subst
     (λ (x : List ℕ).
-    Meets hash
+    MeetsTheRules hash
     (put_in (front_place moved) (box_bytes (c2pa_box (tree_bytes (new_store h c (new_bmff_binding alg (h x)) message)))) base)
     (front_place moved) len (new_store h c (new_bmff_binding alg (h x)) message)
     (question_of parts (new_claim h c (new_bmff_binding alg (h x))) ∷ []))

@@ -19,11 +19,11 @@ use Rattle.c2_bmff_chunks.specs.Fields.{number_at, overflow_places}
 use Rattle.c2_bmff_chunks.specs.Refusals.{shift_refusals}
 use Rattle.c2_bmff_chunks.specs.Tables.{chunk_tables}
 use Rattle.c2_definition.specs.declared.types.Definition.{Definition}
-use Rattle.c2_new_store_spec.specs.Built.{no_digest}
-use Rattle.c2_new_store_spec.specs.Fresh.{fresh_content}
-use Rattle.c2_new_store_spec.specs.Store.{Content}
-use Rattle.c2_new_store_spec.proofs.BuildRows.{actions}
-use Rattle.c2_new_bmff_spec.specs.Films.{bmff_len, bmff_store_size}
+use Rattle.c2_new_file_spec.specs.Built.{no_digest}
+use Rattle.c2_new_file_spec.specs.Fresh.{fresh_content}
+use Rattle.c2_new_file_spec.specs.Store.{Content}
+use Rattle.c2_new_file_spec.proofs.BuildRows.{actions}
+use Rattle.c2_new_file_spec.specs.Films.{bmff_len, bmff_store_size}
 use Rattle.c2_new_front_spec.specs.Fronts.{CanBuildFront, IsMovable, front_covered, front_file, moved_media, tables_of}
 use Rattle.c2_new_front_spec.specs.InFront.{front_place, open_first}
 use Rattle.c2_new_front_spec.specs.Meeting.{front_question}
@@ -38,7 +38,8 @@ boxed kind payload = record { form = short; kind = kind; payload = payload }
 -- the boxes on the path around a chunk table with this count and these fields
 abbrev around : List ℕ → Box
 around table =
-    boxed (codes "moov") (box_bytes (boxed (codes "trak") (box_bytes (boxed (codes "mdia") (box_bytes (boxed (codes "minf") (box_bytes (boxed (codes "stbl") (box_bytes (boxed (codes "stco") (0 ∷ 0 ∷ 0 ∷ 0 ∷ table)))))))))))
+    boxed (codes "moov")
+    (box_bytes (boxed (codes "trak") (box_bytes (boxed (codes "mdia") (box_bytes (boxed (codes "minf") (box_bytes (boxed (codes "stbl") (box_bytes (boxed (codes "stco") (0 ∷ 0 ∷ 0 ∷ 0 ∷ table)))))))))))
 
 -- a file type box
 abbrev file_type : Box
@@ -60,7 +61,7 @@ film_q = with_field (0 ∷ 0 ∷ 0 ∷ 84 ∷ [])
 abbrev bytes_of : List Box → List ℕ
 bytes_of boxes = flat_map box_bytes boxes
 
--- it has 85
+-- the film with a field for its byte of media has 85 bytes
 q_bytes : length (bytes_of film_q) ≡ 85
 q_bytes = refl
 
@@ -92,12 +93,12 @@ built = front_file (no_digest Sha256) fresh (replicate 256 0) (bytes_of film_q) 
 q_place : front_place film_q ≡ 16
 q_place = refl
 
--- it has 1,220 bytes
+-- the box of the store has 1,220 bytes
 q_len : bmff_len fresh 256 ≡ 1220
 unfolding fresh defined actions shortest_head
 q_len = refl
 
--- so the file has 1,305
+-- the new file has 1,305 bytes
 q_file : length built ≡ 1305
 unfolding built fresh defined actions shortest_head chunk_tables box_fault
 q_file = refl
@@ -127,16 +128,17 @@ q_text : length (front_covered 1220 (bytes_of film_q) film_q) ≡ 85
 unfolding chunk_tables box_fault
 q_text = refl
 
--- it begins with the place of the second box in the new file, and the size of that box
+-- what is covered begins with the place of the second box in the new file, and the size of that box
 q_begin : take 12 (front_covered 1220 (bytes_of film_q) film_q) ≡ 0 ∷ 0 ∷ 0 ∷ 0 ∷ 0 ∷ 0 ∷ 4 ∷ 0xD4 ∷ 0 ∷ 0 ∷ 0 ∷ 60 ∷ []
 unfolding chunk_tables box_fault
 q_begin = refl
 
 -- what is signed
 unfoldable signed : List ℕ
-signed = (front_question (no_digest Sha256) fresh 256 (bytes_of film_q) film_q (record { protected = 0xA1 ∷ 0x01 ∷ 0x26 ∷ []; unprotected = dict no_pairs; signature = [] })).tbs
+signed =
+    (front_question (no_digest Sha256) fresh 256 (bytes_of film_q) film_q (record { protected = 0xA1 ∷ 0x01 ∷ 0x26 ∷ []; unprotected = dict no_pairs; signature = [] })).tbs
 
--- it has 375 bytes
+-- what is signed has 375 bytes
 q_signed : length signed ≡ 375
 unfolding signed fresh defined actions shortest_head chunk_tables box_fault
 q_signed = refl
@@ -156,7 +158,8 @@ are_bytes (x ∷ xs) e =
     (ltb-true x 256 both.0, are_bytes xs both.1)
 
 -- a box that isn't of type `uuid`
-is_plain : (kind payload : List ℕ) → length kind ≡ 4 → size_fits short (8 + length payload) ≡ true → bytes_eq kind uuid_kind ≡ false → IsBox (boxed kind payload)
+is_plain : (kind payload : List ℕ) → length kind ≡ 4 → size_fits short (8 + length payload) ≡ true
+    → bytes_eq kind uuid_kind ≡ false → IsBox (boxed kind payload)
 is_plain kind payload k f u = record { kind = k; fits = f; user_type = λ h. absurd (false≢true (sym u ∙ h)) }
 
 -- the film has these root boxes, and no store
@@ -169,7 +172,8 @@ q_movable = record {
     fits = lit< tt;
     begins = refl;
     bytes = refl;
-    forms = (record { is_box = is_plain _ _ refl refl refl; sized = refl }, (record { is_box = is_plain _ _ refl refl refl; sized = refl }, is_plain _ _ refl refl refl));
+    forms =
+        (record { is_box = is_plain _ _ refl refl refl; sized = refl }, (record { is_box = is_plain _ _ refl refl refl; sized = refl }, is_plain _ _ refl refl refl));
     few = lit≤ tt;
   };
   none = (refl, (refl, (refl, tt)));
@@ -187,7 +191,7 @@ q_moves : overflow_places 16 1220 (bytes_of film_q) (tables_of (bytes_of film_q)
 unfolding chunk_tables box_fault
 q_moves = refl
 
--- so a store goes in front of it
+-- a store goes in front of the media
 q_can : CanBuildFront fresh 256 (bytes_of film_q) film_q
 q_can = record {
   movable = q_movable;
@@ -208,7 +212,7 @@ q_none = refl
 abbrev far : List Box → List Box
 far others = film (0 ∷ 0 ∷ 0 ∷ 1 ∷ 255 ∷ 255 ∷ 255 ∷ 255 ∷ []) others
 
--- that can't be moved
+-- the film whose field holds the greatest number can't be moved
 q_far : plan_refusals (bytes_of (far [])) (far []) defined ≡ overflow 72 ∷ []
 unfolding defined actions shortest_head shift_refusals chunk_tables box_fault
 q_far = refl
@@ -222,7 +226,7 @@ sum_last : number_at false (moved_media 1220 (bytes_of last_sum) last_sum) 72 �
 unfolding chunk_tables box_fault
 sum_last = refl
 
--- and isn't refused
+-- the greatest sum that its field holds isn't refused
 sum_fits : plan_refusals (bytes_of last_sum) last_sum defined ≡ []
 unfolding defined actions shortest_head shift_refusals chunk_tables box_fault
 sum_fits = refl
@@ -249,7 +253,7 @@ q_count = refl
 abbrev items : List Box
 items = far (boxed (codes "meta") [] ∷ [])
 
--- that box, and then the field
+-- the box `meta` at the end is refused, and then the field
 q_meta : plan_refusals (bytes_of items) items defined ≡ offset_table 85 ∷ overflow 72 ∷ []
 unfolding defined actions shortest_head shift_refusals chunk_tables box_fault
 q_meta = refl
@@ -280,14 +284,15 @@ q_open = refl
 -- the film whose last box says no size
 abbrev open_last : List Box
 open_last =
-    file_type ∷ around (0 ∷ 0 ∷ 0 ∷ 1 ∷ 0 ∷ 0 ∷ 0 ∷ 84 ∷ []) ∷ record { form = to_end; kind = codes "mdat"; payload = 0x41 ∷ [] } ∷ []
+    file_type ∷ around (0 ∷ 0 ∷ 0 ∷ 1 ∷ 0 ∷ 0 ∷ 0 ∷ 84 ∷ []) ∷ record
+    { form = to_end; kind = codes "mdat"; payload = 0x41 ∷ [] } ∷ []
 
 -- isn't refused
 last_open : plan_refusals (bytes_of open_last) open_last defined ≡ []
 unfolding defined actions shortest_head shift_refusals chunk_tables box_fault
 last_open = refl
 
--- its boxes after the first can be moved
+-- the boxes after the first can be moved in a film whose last box is open
 open_movable : IsMovable (bytes_of open_last) open_last
 unfolding is_c2pa_box is_other_box shift_refusals box_fault
 open_movable = record {
@@ -297,7 +302,8 @@ open_movable = record {
     fits = lit< tt;
     begins = refl;
     bytes = refl;
-    forms = (record { is_box = is_plain _ _ refl refl refl; sized = refl }, (record { is_box = is_plain _ _ refl refl refl; sized = refl }, record { kind = refl; fits = refl; user_type = λ h. absurd (false≢true h) }));
+    forms =
+        (record { is_box = is_plain _ _ refl refl refl; sized = refl }, (record { is_box = is_plain _ _ refl refl refl; sized = refl }, record { kind = refl; fits = refl; user_type = λ h. absurd (false≢true h) }));
     few = lit≤ tt;
   };
   none = (refl, (refl, (refl, tt)));

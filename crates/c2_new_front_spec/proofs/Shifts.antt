@@ -27,13 +27,14 @@ IsNamed e = shift_refusal e ≡ [] → ⊥
 abbrev AreNamed : List ShiftError → Type 0
 AreNamed es = AllByRecursion IsNamed es
 
--- those of two lists are where those of each are
+-- the errors of two lists are named where those of each are
 named_append : (xs ys : List ShiftError) → AreNamed xs → AreNamed ys → AreNamed (xs ++ ys)
 named_append [] ys h k = k
 named_append (x ∷ xs) ys h k = (h.0, named_append xs ys h.1 k)
 
--- and so are those of many
-named_flat : (f : RootBox → List ShiftError) → ((r : RootBox) → AreNamed (f r)) → (rows : List RootBox) → AreNamed (flat_map f rows)
+-- what many lists refuse is named where that of each is
+named_flat : (f : RootBox → List ShiftError) → ((r : RootBox) → AreNamed (f r)) → (rows : List RootBox)
+    → AreNamed (flat_map f rows)
 named_flat f h [] = tt
 named_flat f h (r ∷ rows) = named_append (f r) (flat_map f rows) (h r) (named_flat f h rows)
 
@@ -60,16 +61,19 @@ named_below : (file : List ℕ) (kinds : List (List ℕ)) (rows : List RootBox) 
 named_below file [] rows = named_flat (sibling_refusals file) (named_sibling file) rows
 named_below file (kind ∷ kinds) rows = named_flat _ (λ r. by r (λ inside. named_below file kinds inside) (bytes_eq r.kind kind) (inner file r)) rows
   where
-    by : (r : RootBox) → ((inside : List RootBox) → AreNamed (refusals_below file kinds inside)) → (t : Bool) (o : Option (List RootBox))
+    by : (r : RootBox) → ((inside : List RootBox) → AreNamed (refusals_below file kinds inside))
+        → (t : Bool) (o : Option (List RootBox))
         → AreNamed (cond t (option_map_or (refusals_below file kinds) o (BadTree r.start ∷ [])) [])
     by r rest true None = ((λ h. cc (h)), tt)
     by r rest true (Some inside) = rest inside
     by r rest false o = tt
 
--- so are all of a file
+-- all errors of a file are named
 named_all : (file : List ℕ) (rows : List RootBox) → AreNamed (shift_refusals file rows)
 unfolding shift_refusals
-named_all file rows = named_append (root_refusals rows) (refusals_below file table_path rows) (named_roots rows) (named_below file table_path rows)
+named_all file rows =
+    named_append (root_refusals rows) (refusals_below file table_path rows) (named_roots rows)
+    (named_below file table_path rows)
 
 -- where no refusal is told of named errors, there is none of these
 none_named : (es : List ShiftError) → AreNamed es → flat_map shift_refusal es ≡ [] → es ≡ []
@@ -77,5 +81,6 @@ none_named [] n e = refl
 none_named (x ∷ es) n e = absurd (n.0 (both_none (shift_refusal x) (flat_map shift_refusal es) e).0)
 
 -- nothing stands in the way of moving media data where nothing of it is refused
-pub none_shifted : (file : List ℕ) (rows : List RootBox) → flat_map shift_refusal (shift_refusals file rows) ≡ [] → shift_refusals file rows ≡ []
+pub none_shifted : (file : List ℕ) (rows : List RootBox) → flat_map shift_refusal (shift_refusals file rows) ≡ []
+    → shift_refusals file rows ≡ []
 none_shifted file rows = none_named (shift_refusals file rows) (named_all file rows)

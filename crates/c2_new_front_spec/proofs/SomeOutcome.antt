@@ -1,4 +1,6 @@
 -- Inputs whose media file is opened as something come to some plan and to some new file, or to what refuses them.
+use Rattle.c2_definition.proofs.TheLaws.{definitions_are_well_formed, each_definition_is_read_one_way_some}
+use Rattle.c2_new_signature.proofs.TheLaws.{a_message_fills_its_reserve_or_needs_more, each_message_is_accepted_or_refused_for_one_test}
 use Rattle.std.proofs.Common.{◌≡◌, ◌⊎◌, inl, inr, ℕ, ◌^◌, ◌<◌, Bool, true, false, cond, List, [], ◌∷◌, length, All, Option, Some, None, refl, ap, ◌∙◌, subst}
 use Rattle.std.specs.Bool.{MatchBool}
 use Rattle.std.specs.Option.{option_to_list}
@@ -10,9 +12,9 @@ use Rattle.c2_spec.specs.C2pa.Sign1.{SignParts, SpellsMessage}
 use Rattle.c2_spec.specs.Container.{IsLocated, is_bmff}
 use Rattle.c2_spec.specs.Jpeg.Store as jpeg
 use Rattle.c2_spec.specs.Jumbf.Tree.{Tree}
-use Rattle.c2_spec.specs.Located.{Located, Opening, refused, absent, here}
+use Rattle.c2_spec.specs.Located.{Opening, refused, absent, here}
 use Rattle.c2_spec.specs.declared.digest.Alg.{Alg}
-use Rattle.c2_rules.specs.Opened.{IsBoxTree, IsManifestStore, IsManifestTree, IsOpened, Opens}
+use Rattle.c2_rules.specs.Opened.{IsOpened}
 use Rattle.c2_definition.specs.DefinitionFile.{IsDefinition, IsWellFormed}
 use Rattle.c2_definition.specs.declared.types.Definition.{Definition}
 use Rattle.c2_definition.specs.declared.types.DefinitionField.{DefinitionField}
@@ -20,29 +22,19 @@ use Rattle.c2_new_signature.specs.Message.{IsAccepted, IsRefused, RefusedForOne}
 use Rattle.c2_new_signature.specs.Refusals.{reserve_needed}
 use Rattle.c2_new_signature.specs.Signed.{FillsOrNeedsMore, IsPaddable, IsSigned, NeedsMore}
 use Rattle.c2_new_signature.specs.declared.error.SignaturePart.{SignaturePart}
-use Rattle.c2_new_bmff_spec.specs.Films.{AreOthers}
+use Rattle.c2_new_file_spec.specs.Films.{AreOthers}
 use Rattle.c2_new_front_spec.specs.Order.{FrontRefusal, bmff_refusals, front_refusals, not_bmff, plan_refusals, reserve_refusals, reserve_too_small, store_refusals}
 use Rattle.c2_new_front_spec.specs.Outcomes.{IsDefinitionStage, IsBmffStage, IsMadeIn, IsMadeOver, IsMediaStage, IsMessageRead, IsMessageStage, IsNewFile, IsPlannedIn, IsPlannedOver}
 use Rattle.c2_new_front_spec.specs.Outcomes.{SomeFrontMade, SomeFrontPlan, definition_stage, front_signed, media_stage, message_stage, new_file}
 use Rattle.c2_new_front_spec.proofs.Shifts.{both_none}
 use Rattle.c2_new_front_spec.proofs.Stages.{Something, some_then, some_unless}
+use Rattle.c2_rules.proofs.OpenedStore.{located_absent}
 
 -- ---- what laws of other crates say
-
--- each file is a definition, or one thing of it is refused first
-abbrev pub EachDefinition : Type 0
-EachDefinition = (file : List ℕ) → (r : Result Definition DefinitionField) × IsDefinition file r
 
 -- a definition that a file is is well formed
 abbrev pub AreWellFormed : Type 0
 AreWellFormed = (file : List ℕ) (d : Definition) → IsDefinition file (Ok d) → IsWellFormed d
-
--- all of them
-pub record SomeLaws : Type 0 where
-  pub definition : EachDefinition
-  pub formed : AreWellFormed
-  pub refused : RefusedForOne
-  pub fills : FillsOrNeedsMore
 
 -- ---- the media
 
@@ -71,24 +63,15 @@ is_bmff_file true e = refl
 is_bmff_file false e = absurd (cc (e))
 
 -- a media file that passed, and of which no store is refused, is opened as one without a store
-no_store : (media : List ℕ) (what : Opening Tree) → IsMediaStage media (Ok what) → store_refusals what ≡ [] → IsOpened media absent
+no_store : (media : List ℕ) (what : Opening Tree) → IsMediaStage media (Ok what) → store_refusals what ≡ []
+    → IsOpened media absent
 no_store media what m none = by m.0 m.1 m.2
   where
     by : (w : Opening Tree) → IsOpened media w → Ok what ≡ media_stage w → IsOpened media absent
     by (refused reason number) o e = absurd (cc (e))
     by absent o e = o
-    by (here start len t) o e = absurd (let bad = ap store_refusals (same_value what (here start len t) e) ∙ none in cc (bad))
-
--- a file without a store as its manifests are read has none as a container
-located_absent : (l : Located) → Opens IsManifestStore l absent → l ≡ absent
-located_absent (refused reason number) h = absurd (cc (h))
-located_absent absent h = refl
-located_absent (here start len store) h = absurd (by h.0 h.1 h.2)
-  where
-    by : (tree : Opening Tree) → IsBoxTree start len store tree → Opens IsManifestTree tree absent → ⊥
-    by (refused reason number) a b = cc (b)
-    by absent a b = a
-    by (here place count t) a b = b
+    by (here start len t) o e =
+        absurd (let bad = ap store_refusals (same_value what (here start len t) e) ∙ none in cc (bad))
 
 -- Root boxes of a film of which none has a part in a store.
 pub record FreeRoots (media : List ℕ) : Type 0 where
@@ -98,16 +81,18 @@ pub record FreeRoots (media : List ℕ) : Type 0 where
   pub others : AreOthers roots
 
 -- where nothing is refused of what a media file is opened as, it has such
-pub free_roots : (media : List ℕ) (what : Opening Tree) → IsMediaStage media (Ok what) → bmff_refusals media what ≡ [] → FreeRoots media
+pub free_roots : (media : List ℕ) (what : Opening Tree) → IsMediaStage media (Ok what) → bmff_refusals media what ≡ []
+    → FreeRoots media
 free_roots media what m none =
     let both = both_none (cond (is_bmff media) [] (not_bmff ∷ [])) (store_refusals what) none in
     let film : is_bmff media ≡ true = is_bmff_file (is_bmff media) both.0 in
     let opened : IsOpened media absent = no_store media what m both.1 in
     let located : IsLocated media absent = subst (IsLocated media) (located_absent opened.0 opened.2) opened.1 in
-    let free : HasNoBmffStore media = subst (λ (b : Bool). MatchBool b (IsBmffLocated media absent) (jpeg.IsLocated media absent)) film located in
+    let free : HasNoBmffStore media =
+    subst (λ (b : Bool). MatchBool b (IsBmffLocated media absent) (jpeg.IsLocated media absent)) film located in
     record { film = film; roots = free.roots; has_roots = free.has_roots; others = free.none }
 
--- so it comes to something
+-- the stage of root boxes has an outcome
 some_bmff : (media : List ℕ) (what : Opening Tree) → IsMediaStage media (Ok what) → Something (IsBmffStage media what)
 some_bmff media what m =
     some_unless (bmff_refusals media what) (λ r. (roots : List Box) × HasRoots media roots × (r ≡ Ok roots)) (λ none.
@@ -117,22 +102,25 @@ some_bmff media what m =
 -- ---- the definition and the message
 
 -- each definition file comes to something
-some_definition : EachDefinition → (file : List ℕ) → Something (IsDefinitionStage file)
-some_definition law file = let d = law file in (definition_stage d.0, (d.0, d.1, refl))
+some_definition : (file : List ℕ) → Something (IsDefinitionStage file)
+some_definition file = let d = each_definition_is_read_one_way_some file in (definition_stage d.0, (d.0, d.1, refl))
 
 -- a definition that passed is that of its file
 pub defined_of : (file : List ℕ) (d : Definition) → IsDefinitionStage file (Ok d) → IsDefinition file (Ok d)
 defined_of file d h = by h.0 h.1 h.2
   where
-    by : (r : Result Definition DefinitionField) → IsDefinition file r → Ok d ≡ definition_stage r → IsDefinition file (Ok d)
+    by : (r : Result Definition DefinitionField) → IsDefinition file r → Ok d ≡ definition_stage r
+        → IsDefinition file (Ok d)
     by (Ok x) is e = let same : x ≡ d = cc (e) in subst (λ (y : Definition). IsDefinition file (Ok y)) same is
     by (Err f) is e = absurd (cc (e))
 
 -- each message comes to something
-some_message : RefusedForOne → (protected bytes : List ℕ) → All (λ b. b < 2 ^ 8) bytes → Something (IsMessageStage protected bytes)
+some_message : RefusedForOne → (protected bytes : List ℕ) → All (λ b. b < 2 ^ 8) bytes
+    → Something (IsMessageStage protected bytes)
 some_message law protected bytes are = by (law.either protected bytes are)
   where
-    by : IsAccepted protected bytes ⊎ ((test : SignaturePart) × IsRefused protected bytes test) → Something (IsMessageStage protected bytes)
+    by : IsAccepted protected bytes ⊎ ((test : SignaturePart) × IsRefused protected bytes test)
+        → Something (IsMessageStage protected bytes)
     by (inl a) = let form = a.1.0 in (Ok form.0, (Ok form.0, (a, form.1), refl))
     by (inr r) = (message_stage (Err r.0), (Err r.0, r.1, refl))
 
@@ -142,15 +130,18 @@ pub record IsTaken (protected bytes : List ℕ) (p : SignParts) : Type 0 where
   pub spelled : SpellsMessage bytes p
 
 -- a message that passed was accepted
-pub read_taken : (protected bytes : List ℕ) (p : SignParts) → IsMessageStage protected bytes (Ok p) → IsTaken protected bytes p
+pub read_taken : (protected bytes : List ℕ) (p : SignParts) → IsMessageStage protected bytes (Ok p)
+    → IsTaken protected bytes p
 read_taken protected bytes p h = by h.0 h.1 h.2
   where
-    by : (m : Result SignParts SignaturePart) → IsMessageRead protected bytes m → Ok p ≡ message_stage m → IsTaken protected bytes p
+    by : (m : Result SignParts SignaturePart) → IsMessageRead protected bytes m → Ok p ≡ message_stage m
+        → IsTaken protected bytes p
     by (Ok q) is e = let same : q ≡ p = cc (e) in record { accepted = is.0; spelled = subst (SpellsMessage bytes) same is.1 }
     by (Err t) is e = absurd (cc (e))
 
--- it can be padded to what a definition reserves
-paddable : (protected bytes : List ℕ) (p : SignParts) (d : Definition) → IsTaken protected bytes p → IsWellFormed d → IsPaddable bytes p d.reserve
+-- a message that passed can be padded to what a definition reserves
+paddable : (protected bytes : List ℕ) (p : SignParts) (d : Definition) → IsTaken protected bytes p → IsWellFormed d
+    → IsPaddable bytes p d.reserve
 paddable protected bytes p d t formed =
     let tests = t.accepted.1.1 in
     let map = t.spelled.is.header in
@@ -179,32 +170,35 @@ no_more d p none needs = by (reserve_needed d.reserve (length (bare_bytes p))) n
     by (Some n) e k = cc (k)
 
 -- a file is built where nothing is refused
-some_made : FillsOrNeedsMore → (hash : Alg → List ℕ → List ℕ) (media bytes : List ℕ) (d : Definition) (m : SignParts) (roots : List Box) → IsTaken d.protected bytes m → IsWellFormed d
+some_made : FillsOrNeedsMore
+    → (hash : Alg → List ℕ → List ℕ) (media bytes : List ℕ) (d : Definition) (m : SignParts) (roots : List Box)
+    → IsTaken d.protected bytes m → IsWellFormed d
     → front_refusals media roots d m ≡ [] → Something (IsNewFile hash media d m roots)
 some_made fills hash media bytes d m roots taken formed none =
     let both = both_none (plan_refusals media roots d) (reserve_refusals d m) none in
     by both.1 (fills.either bytes m d.reserve (paddable d.protected bytes m d taken formed))
   where
-    by : reserve_refusals d m ≡ [] → ((message : List ℕ) × IsSigned m d.reserve message) ⊎ NeedsMore m d.reserve → Something (IsNewFile hash media d m roots)
+    by : reserve_refusals d m ≡ [] → ((message : List ℕ) × IsSigned m d.reserve message) ⊎ NeedsMore m d.reserve
+        → Something (IsNewFile hash media d m roots)
     by pass (inl s) = (Ok (new_file hash media roots d s.0), (s.0, s.1, refl))
     by pass (inr n) = absurd (no_more d m pass n)
 
 -- ---- both calls
 
 -- something is planned
-pub some_plan : SomeLaws → SomeFrontPlan
-some_plan l hash media definition what opened =
+pub some_plan : SomeFrontPlan
+some_plan hash media definition what opened =
     some_then (IsMediaStage media) (IsPlannedOver hash media definition) (some_media media what opened) (λ kind is_media.
-    some_then (IsDefinitionStage definition) _ (some_definition l.definition definition) (λ d is_d.
+    some_then (IsDefinitionStage definition) _ (some_definition definition) (λ d is_d.
     some_then (IsBmffStage media kind) (IsPlannedIn hash media d) (some_bmff media kind is_media) (λ roots is_bmff_file.
     some_unless (plan_refusals media roots d) (λ r. r ≡ Ok (front_signed hash media roots d)) (λ none. (Ok (front_signed hash media roots d), refl)))))
 
 -- something is built
-pub some_file : SomeLaws → SomeFrontMade
-some_file l hash media definition message what opened are =
+pub some_file : SomeFrontMade
+some_file hash media definition message what opened are =
     some_then (IsMediaStage media) (IsMadeOver hash media definition message) (some_media media what opened) (λ kind is_media.
-    some_then (IsDefinitionStage definition) _ (some_definition l.definition definition) (λ d is_d.
-    some_then (IsMessageStage d.protected message) _ (some_message l.refused d.protected message are) (λ m is_m.
+    some_then (IsDefinitionStage definition) _ (some_definition definition) (λ d is_d.
+    some_then (IsMessageStage d.protected message) _ (some_message each_message_is_accepted_or_refused_for_one_test d.protected message are) (λ m is_m.
     some_then (IsBmffStage media kind) (IsMadeIn hash media d m) (some_bmff media kind is_media) (λ roots is_bmff_file.
     some_unless (front_refusals media roots d m) (IsNewFile hash media d m roots)
-    (some_made l.fills hash media message d m roots (read_taken d.protected message m is_m) (l.formed definition d (defined_of definition d is_d)))))))
+    (some_made a_message_fills_its_reserve_or_needs_more hash media message d m roots (read_taken d.protected message m is_m) (definitions_are_well_formed definition d (defined_of definition d is_d)))))))

@@ -1,15 +1,15 @@
 -- The place right behind the first root box is a split.
-use Rattle.std.proofs.Common.{◌≡◌, ℕ, ◌<◌, Bool, true, false, cond, ◌||◌, List, [], ◌∷◌, ◌++◌, length, take, drop, Option, Some, None, refl, sym, ap, ◌∙◌, subst, arith, bytes_eq}
+use Rattle.std.proofs.Common.{◌≡◌, ℕ, ◌<◌, Bool, true, false, cond, List, [], ◌∷◌, ◌++◌, length, take, drop, Option, Some, None, refl, sym, ap, ◌∙◌, subst, arith, bytes_eq}
 use Rattle.std.proofs.lemmas.List.{take-append-drop}
 use Rattle.std.specs.Int.{w64, to_be_bytes}
-use Rattle.std.specs.List.{flat_map}
-use Rattle.c2_spec.specs.Bmff.Boxes.{Box, HasRoots, IsBox, begins_bmff, box_bytes, ftyp_kind, is_to_end, most_roots}
+use Rattle.c2_spec.specs.Bmff.Boxes.{Box, HasRoots, begins_bmff, box_bytes, ftyp_kind, is_to_end, most_roots}
 use Rattle.c2_spec.specs.Bmff.Writing.{is_left_out}
-use Rattle.c2_spec.proofs.BmffOneList.{first_box, tells}
-use Rattle.c2_new_bmff_spec.specs.Films.{AreOthers}
+use Rattle.c2_new_file_spec.specs.Films.{AreOthers}
 use Rattle.c2_new_front_spec.specs.InFront.{open_first, others_text}
-use Rattle.c2_new_split_spec.specs.Splits.{AreClosed, boxes_text}
+use Rattle.c2_new_content_spec.specs.Splits.{AreClosed, boxes_text}
 use Rattle.c2_new_front_spec.specs.Splits.{FrontIsSplit}
+use Rattle.c2_lemmas.proofs.Bools.{or_middle}
+use Rattle.c2_new_front_spec.proofs.InFront.{first_type}
 
 -- ---- the first root box
 
@@ -18,15 +18,7 @@ first_some : (base : List ℕ) (roots : List Box) → HasRoots base roots → 0 
 first_some base [] h = absurd (let bad = sym h.begins ∙ ap begins_bmff h.bytes in cc (bad))
 first_some base (b ∷ bs) h = omega arith
 
--- which has the type of a file type box
-first_type : (file : List ℕ) (b : Box) (bs : List Box) → HasRoots file (b ∷ bs) → bytes_eq b.kind ftyp_kind ≡ true
-first_type file b bs h =
-    let own : IsBox b = first_box b bs h.forms in
-    let told : begins_bmff (box_bytes b ++ flat_map box_bytes bs) ≡ bytes_eq b.kind ftyp_kind =
-    ap (λ k. bytes_eq k ftyp_kind) (tells b.form b.kind b.payload (flat_map box_bytes bs) own.kind own).kind_is in
-    sym told ∙ ap begins_bmff (sym h.bytes) ∙ h.begins
-
--- it is closed, where it isn't open
+-- the first root box is closed, where it isn't open
 first_closed : (roots : List Box) → open_first roots ≡ None → AreClosed (take 1 roots)
 first_closed [] h = tt
 first_closed (b ∷ bs) h = (go (is_to_end b.form) h, tt)
@@ -37,23 +29,17 @@ first_closed (b ∷ bs) h = (go (is_to_end b.form) h, tt)
 
 -- ---- what is bound
 
--- a file type box is left out
-type_out : (x y z : Bool) → y ≡ true → (x || (y || z)) ≡ true
-type_out true y z e = refl
-type_out false true z e = refl
-type_out false false z e = absurd (cc (e))
-
--- so behind it the text is that of the others
+-- behind the file type box the text is that of the other root boxes
 pub text_behind_first : (base : List ℕ) (roots : List Box) (len : ℕ) → HasRoots base roots
     → boxes_text len (take 1 roots) (drop 1 roots) ≡ others_text len roots
 text_behind_first base [] len h = refl
 text_behind_first base (b ∷ bs) len h =
-    let out : is_left_out b ≡ true = type_out _ (bytes_eq b.kind ftyp_kind) _ (first_type base b bs h) in
+    let out : is_left_out b ≡ true = or_middle _ (bytes_eq b.kind ftyp_kind) _ (first_type base b bs h) in
     ap (λ (t : Bool). (cond t [] (to_be_bytes w64 0 ++ box_bytes b) ++ []) ++ others_text len (b ∷ bs)) out
 
 -- ---- the place
 
--- it splits the file
+-- the place behind the first root box splits the file
 pub front_split : FrontIsSplit
 front_split base roots film has others =
     let parts = take-append-drop 1 roots in
@@ -61,6 +47,7 @@ front_split base roots film has others =
       split = (film, subst (HasRoots base) (sym parts) has, first_some base roots has);
       free = subst AreOthers (sym parts) others;
       start = refl;
-      room = λ closed few. (first_closed roots closed, subst (λ (bs : List Box). length bs < most_roots) (sym parts) few);
+      room =
+          λ closed few. (first_closed roots closed, subst (λ (bs : List Box). length bs < most_roots) (sym parts) few);
       text = λ len. text_behind_first base roots len has;
     }

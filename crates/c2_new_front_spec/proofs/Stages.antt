@@ -11,19 +11,24 @@ abbrev pub IsOne : {A : Type 0} → (Result A FrontRefusal → Type 0) → Type 
 IsOne {A} Is = (r s : Result A FrontRefusal) → Is r → Is s → r ≡ s
 
 -- what comes after one thing is one
-one_after : {A B : Type 0} (Next : A → Result B FrontRefusal → Type 0) → ((a : A) → IsOne (Next a)) → (first : Result A FrontRefusal) (r s : Result B FrontRefusal)
+one_after : {A B : Type 0} (Next : A → Result B FrontRefusal → Type 0) → ((a : A) → IsOne (Next a))
+    → (first : Result A FrontRefusal) (r s : Result B FrontRefusal)
     → After Next first r → After Next first s → r ≡ s
 one_after Next one (Ok a) r s h k = one a r s h k
 one_after Next one (Err e) r s h k = h ∙ sym k
 
 -- two stages come to one thing where each does
-pub one_then : {A B : Type 0} (First : Result A FrontRefusal → Type 0) (Next : A → Result B FrontRefusal → Type 0) → IsOne First
+pub one_then : {A B : Type 0} (First : Result A FrontRefusal → Type 0) (Next : A → Result B FrontRefusal → Type 0)
+    → IsOne First
     → ((a : A) → IsOne (Next a)) → IsOne (Then First Next)
 one_then {A} {B} First Next first next r s h k =
-    one_after Next next k.first r s (subst (λ (a : Result A FrontRefusal). After Next a r) (first h.first k.first h.is_first k.is_first) h.next) k.next
+    one_after Next next k.first r s
+    (subst (λ (a : Result A FrontRefusal). After Next a r) (first h.first k.first h.is_first k.is_first) h.next)
+    k.next
 
 -- what is refused first, and what comes where nothing is, come to one thing
-pub one_unless : {A : Type 0} (es : List FrontRefusal) (Next : Result A FrontRefusal → Type 0) → IsOne Next → IsOne (Unless es Next)
+pub one_unless : {A : Type 0} (es : List FrontRefusal) (Next : Result A FrontRefusal → Type 0) → IsOne Next
+    → IsOne (Unless es Next)
 one_unless [] Next one r s h k = one r s h k
 one_unless (e ∷ es) Next one r s h k = h ∙ sym k
 
@@ -38,7 +43,8 @@ abbrev pub Something : {A : Type 0} → (Result A FrontRefusal → Type 0) → T
 Something {A} Is = (r : Result A FrontRefusal) × Is r
 
 -- two stages come to something where the first does, and the second after it
-pub some_then : {A B : Type 0} (First : Result A FrontRefusal → Type 0) (Next : A → Result B FrontRefusal → Type 0) → Something First
+pub some_then : {A B : Type 0} (First : Result A FrontRefusal → Type 0) (Next : A → Result B FrontRefusal → Type 0)
+    → Something First
     → ((a : A) → First (Ok a) → Something (Next a)) → Something (Then First Next)
 some_then {A} {B} First Next some next = by some.0 some.1
   where
@@ -47,7 +53,8 @@ some_then {A} {B} First Next some next = by some.0 some.1
     by (Err e) h = (Err e, record { first = Err e; is_first = h; next = refl })
 
 -- the first of what is refused, and else what comes where nothing is
-pub some_unless : {A : Type 0} (es : List FrontRefusal) (Next : Result A FrontRefusal → Type 0) → (es ≡ [] → Something Next) → Something (Unless es Next)
+pub some_unless : {A : Type 0} (es : List FrontRefusal) (Next : Result A FrontRefusal → Type 0)
+    → (es ≡ [] → Something Next) → Something (Unless es Next)
 some_unless [] Next some = some refl
 some_unless (e ∷ es) Next some = (Err e, refl)
 
@@ -60,7 +67,8 @@ pub record Passed {A B : Type 0} (First : Result A FrontRefusal → Type 0) (Nex
   pub next : Next value (Ok b)
 
 -- two stages that come to a value both passed
-pub passed : {A B : Type 0} (First : Result A FrontRefusal → Type 0) (Next : A → Result B FrontRefusal → Type 0) (b : B) → Then First Next (Ok b) → Passed First Next b
+pub passed : {A B : Type 0} (First : Result A FrontRefusal → Type 0) (Next : A → Result B FrontRefusal → Type 0) (b : B)
+    → Then First Next (Ok b) → Passed First Next b
 passed {A} {B} First Next b h = by h.first h.is_first h.next
   where
     by : (first : Result A FrontRefusal) → First first → After Next first (Ok b) → Passed First Next b
@@ -68,16 +76,22 @@ passed {A} {B} First Next b h = by h.first h.is_first h.next
     by (Err e) f n = absurd (cc (n))
 
 -- where a list of what is refused comes to a value, it is empty
-pub unless_passed : {A : Type 0} (es : List FrontRefusal) (Next : Result A FrontRefusal → Type 0) (a : A) → Unless es Next (Ok a) → (es ≡ []) × Next (Ok a)
+pub unless_passed : {A : Type 0} (es : List FrontRefusal) (Next : Result A FrontRefusal → Type 0) (a : A)
+    → Unless es Next (Ok a) → (es ≡ []) × Next (Ok a)
 unless_passed [] Next a h = (refl, h)
 unless_passed (e ∷ es) Next a h = absurd (cc (h))
 
 -- what comes behind a stage that passed
-pub then_next : {A B : Type 0} (First : Result A FrontRefusal → Type 0) (Next : A → Result B FrontRefusal → Type 0) (a : A) (r : Result B FrontRefusal) → First (Ok a) → Next a r → Then First Next r
+pub then_next :
+    {A B : Type 0} (First : Result A FrontRefusal → Type 0) (Next : A → Result B FrontRefusal → Type 0) (a : A)
+    (r : Result B FrontRefusal)
+    → First (Ok a) → Next a r → Then First Next r
 then_next First Next a r h k = record { first = Ok a; is_first = h; next = k }
 
--- and behind a list of what is refused, which is empty
-pub unless_passes : {A : Type 0} (es : List FrontRefusal) (Next : Result A FrontRefusal → Type 0) (r : Result A FrontRefusal) → es ≡ [] → Next r → Unless es Next r
+-- what comes behind a list of what is refused, which is empty
+pub unless_passes :
+    {A : Type 0} (es : List FrontRefusal) (Next : Result A FrontRefusal → Type 0) (r : Result A FrontRefusal) → es ≡ []
+    → Next r → Unless es Next r
 unless_passes {A} es Next r h n = subst (λ (xs : List FrontRefusal). Unless {A = A} xs Next r) (sym h) n
 
 -- ---- no refusal
@@ -87,7 +101,8 @@ abbrev pub NeverRefuses : {A : Type 0} → (Result A FrontRefusal → Type 0) �
 NeverRefuses Is = (e : FrontRefusal) → Is (Err e) → ⊥
 
 -- two stages refuse nothing where neither does
-pub then_never : {A B : Type 0} (First : Result A FrontRefusal → Type 0) (Next : A → Result B FrontRefusal → Type 0) → NeverRefuses First
+pub then_never : {A B : Type 0} (First : Result A FrontRefusal → Type 0) (Next : A → Result B FrontRefusal → Type 0)
+    → NeverRefuses First
     → ((a : A) → First (Ok a) → NeverRefuses (Next a)) → NeverRefuses (Then First Next)
 then_never {A} {B} First Next first next e h = by h.first h.is_first h.next
   where
@@ -96,15 +111,18 @@ then_never {A} {B} First Next first next e h = by h.first h.is_first h.next
     by (Err x) f n = first x f
 
 -- an empty list refuses nothing, where what comes behind it doesn't
-pub unless_never : {A : Type 0} (es : List FrontRefusal) (Next : Result A FrontRefusal → Type 0) → es ≡ [] → NeverRefuses Next → NeverRefuses (Unless es Next)
-unless_never {A} es Next none next e h = next e (subst (λ (xs : List FrontRefusal). Unless {A = A} xs Next (Err e)) none h)
+pub unless_never : {A : Type 0} (es : List FrontRefusal) (Next : Result A FrontRefusal → Type 0) → es ≡ []
+    → NeverRefuses Next → NeverRefuses (Unless es Next)
+unless_never {A} es Next none next e h =
+    next e (subst (λ (xs : List FrontRefusal). Unless {A = A} xs Next (Err e)) none h)
 
 -- a value is no refusal
 pub value_never : {A : Type 0} (a : A) → NeverRefuses (λ (r : Result A FrontRefusal). r ≡ Ok a)
 value_never a e h = cc (h)
 
 -- what comes to something, and refuses nothing, comes to a value
-pub comes_out : {A : Type 0} (Is : Result A FrontRefusal → Type 0) (r : Result A FrontRefusal) → Is r → NeverRefuses Is → (a : A) × Is (Ok a)
+pub comes_out : {A : Type 0} (Is : Result A FrontRefusal → Type 0) (r : Result A FrontRefusal) → Is r → NeverRefuses Is
+    → (a : A) × Is (Ok a)
 comes_out Is (Ok a) h never = (a, h)
 comes_out Is (Err e) h never = absurd (never e h)
 

@@ -23,7 +23,8 @@ use Rattle.c2_new_front_spec.proofs.Stages.{NeverRefuses, comes_out, none_both, 
 -- ---- the inputs
 
 -- the media
-media_never : (media : List ℕ) → ((reason : Reason) (number : ℕ) → IsOpened media (refused reason number) → ⊥) → NeverRefuses (IsMediaStage media)
+media_never : (media : List ℕ) → ((reason : Reason) (number : ℕ) → IsOpened media (refused reason number) → ⊥)
+    → NeverRefuses (IsMediaStage media)
 media_never media pass e h = by h.0 h.1 h.2
   where
     by : (what : Opening Tree) → IsOpened media what → Err e ≡ media_stage what → ⊥
@@ -32,7 +33,8 @@ media_never media pass e h = by h.0 h.1 h.2
     by (here start len t) o q = cc (q)
 
 -- the definition
-definition_never : (file : List ℕ) → ((field : DefinitionField) → IsDefinition file (Err field) → ⊥) → NeverRefuses (IsDefinitionStage file)
+definition_never : (file : List ℕ) → ((field : DefinitionField) → IsDefinition file (Err field) → ⊥)
+    → NeverRefuses (IsDefinitionStage file)
 definition_never file pass e h = by h.0 h.1 h.2
   where
     by : (r : Result Definition DefinitionField) → IsDefinition file r → Err e ≡ definition_stage r → ⊥
@@ -40,7 +42,8 @@ definition_never file pass e h = by h.0 h.1 h.2
     by (Err field) is q = pass field is
 
 -- the message
-message_never : (protected bytes : List ℕ) → ((test : SignaturePart) → IsRefused protected bytes test → ⊥) → NeverRefuses (IsMessageStage protected bytes)
+message_never : (protected bytes : List ℕ) → ((test : SignaturePart) → IsRefused protected bytes test → ⊥)
+    → NeverRefuses (IsMessageStage protected bytes)
 message_never protected bytes pass e h = by h.0 h.1 h.2
   where
     by : (m : Result SignParts SignaturePart) → IsMessageRead protected bytes m → Err e ≡ message_stage m → ⊥
@@ -48,21 +51,27 @@ message_never protected bytes pass e h = by h.0 h.1 h.2
     by (Err test) is q = pass test is
 
 -- the root boxes
-bmff_never : (media : List ℕ) (what : Opening Tree) → bmff_refusals media what ≡ [] → NeverRefuses (IsBmffStage media what)
+bmff_never : (media : List ℕ) (what : Opening Tree) → bmff_refusals media what ≡ []
+    → NeverRefuses (IsBmffStage media what)
 bmff_never media what none =
-    unless_never (bmff_refusals media what) (λ r. (roots : List Box) × HasRoots media roots × (r ≡ Ok roots)) none (λ e k. cc (k.2))
+    unless_never (bmff_refusals media what) (λ r. (roots : List Box) × HasRoots media roots × (r ≡ Ok roots)) none
+    (λ e k. cc (k.2))
 
 -- root boxes that passed are the media's
-roots_of : (media : List ℕ) (what : Opening Tree) (roots : List Box) → IsBmffStage media what (Ok roots) → HasRoots media roots
+roots_of : (media : List ℕ) (what : Opening Tree) (roots : List Box) → IsBmffStage media what (Ok roots)
+    → HasRoots media roots
 roots_of media what roots h =
-    let p = unless_passed (bmff_refusals media what) (λ r. (boxes : List Box) × HasRoots media boxes × (r ≡ Ok boxes)) roots h in
+    let p =
+    unless_passed (bmff_refusals media what) (λ r. (boxes : List Box) × HasRoots media boxes × (r ≡ Ok boxes))
+    roots h in
     let same : p.1.0 ≡ roots = cc (p.1.2) in
     subst (HasRoots media) same p.1.1
 
 -- ---- both calls
 
 -- a plan
-plan_never : (hash : Alg → List ℕ → List ℕ) (media definition : List ℕ) → IsPlanUnrefused media definition → NeverRefuses (IsFrontPlanned hash media definition)
+plan_never : (hash : Alg → List ℕ → List ℕ) (media definition : List ℕ) → IsPlanUnrefused media definition
+    → NeverRefuses (IsFrontPlanned hash media definition)
 plan_never hash media definition h =
     then_never (IsMediaStage media) (IsPlannedOver hash media definition) (media_never media h.media_passes) (λ what is_media.
     then_never (IsDefinitionStage definition) _ (definition_never definition h.definition_passes) (λ d is_d.
@@ -70,8 +79,9 @@ plan_never hash media definition h =
     unless_never (plan_refusals media roots d) (λ r. r ≡ Ok (front_signed hash media roots d))
     (h.plan_passes d roots (defined_of definition d is_d) (roots_of media what roots is_bmff_file)) (value_never (front_signed hash media roots d)))))
 
--- and a new file
-made_never : (hash : Alg → List ℕ → List ℕ) (media definition message : List ℕ) → IsFrontUnrefused media definition message → NeverRefuses (IsFrontMade hash media definition message)
+-- a new file is never refused where nothing is refused of its inputs
+made_never : (hash : Alg → List ℕ → List ℕ) (media definition message : List ℕ)
+    → IsFrontUnrefused media definition message → NeverRefuses (IsFrontMade hash media definition message)
 made_never hash media definition message h =
     let before : IsPlanUnrefused media definition = h.plan in
     then_never (IsMediaStage media) (IsMadeOver hash media definition message) (media_never media before.media_passes) (λ what is_media.
@@ -79,18 +89,20 @@ made_never hash media definition message h =
     let defined = defined_of definition d is_d in
     then_never (IsMessageStage d.protected message) _ (message_never d.protected message (λ test. h.message_passes d test defined)) (λ parts is_parts.
     then_never (IsBmffStage media what) (IsMadeIn hash media d parts) (bmff_never media what (before.bmff_passes what (opened_as media what is_media))) (λ roots is_bmff_file.
-    let plan : plan_refusals media roots d ≡ [] = before.plan_passes d roots defined (roots_of media what roots is_bmff_file) in
-    let reserve : reserve_refusals d parts ≡ [] = h.reserve_passes d parts defined (read_taken d.protected message parts is_parts).spelled in
+    let plan : plan_refusals media roots d ≡ [] =
+    before.plan_passes d roots defined (roots_of media what roots is_bmff_file) in
+    let reserve : reserve_refusals d parts ≡ [] =
+    h.reserve_passes d parts defined (read_taken d.protected message parts is_parts).spelled in
     unless_never (front_refusals media roots d parts) (IsNewFile hash media d parts roots)
     (none_both (plan_refusals media roots d) (reserve_refusals d parts) plan reserve) (λ e k. cc (k.2))))))
 
--- so bytes are planned
+-- where nothing is refused, bytes are planned
 pub unrefused_plan : SomeFrontPlan → UnrefusedIsPlanned
 unrefused_plan some hash media definition what opened h =
     let r = some hash media definition what opened in
     comes_out (IsFrontPlanned hash media definition) r.0 r.1 (plan_never hash media definition h)
 
--- and a file is made
+-- where nothing is refused, a new file is made
 pub unrefused_made : SomeFrontMade → UnrefusedIsMade
 unrefused_made some hash media definition message what opened are h =
     let r = some hash media definition message what opened are in

@@ -18,9 +18,9 @@ use Rattle.c2_bmff_chunks.specs.Refusals.{shift_refusals}
 use Rattle.c2_bmff_chunks.specs.Shifted.{IsShifted, shifted}
 use Rattle.c2_bmff_chunks.specs.Tables.{chunk_tables}
 use Rattle.c2_bmff_chunks.specs.declared.table.ChunkTable.{ChunkTable}
-use Rattle.c2_new_store_spec.specs.Built.{HasDigestLen, SameFile}
-use Rattle.c2_new_store_spec.specs.Store.{Content, new_store, new_alg}
-use Rattle.c2_new_bmff_spec.specs.Films.{AreOthers, new_bmff_binding, bmff_len, bmff_store_size}
+use Rattle.c2_new_file_spec.specs.Built.{HasDigestLen, SameFile}
+use Rattle.c2_new_file_spec.specs.Store.{Content, new_store, new_alg}
+use Rattle.c2_new_file_spec.specs.Films.{AreOthers, new_bmff_binding, bmff_len, bmff_store_size}
 use Rattle.c2_new_front_spec.specs.InFront.{front_place, front_with, open_first, others_text}
 
 -- ---- the new file

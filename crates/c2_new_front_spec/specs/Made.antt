@@ -19,9 +19,9 @@ use Rattle.c2_definition.specs.declared.types.DefinitionField.{DefinitionField}
 use Rattle.c2_new_signature.specs.Message.{IsRefused}
 use Rattle.c2_new_signature.specs.Signed.{IsSigned}
 use Rattle.c2_new_signature.specs.declared.error.SignaturePart.{SignaturePart}
-use Rattle.c2_new_store_spec.specs.Fresh.{GivesDigests, Meets, fresh_content}
-use Rattle.c2_new_store_spec.specs.Store.{new_alg}
-use Rattle.c2_new_store_spec.specs.Written.{HasTexts}
+use Rattle.c2_new_file_spec.specs.Fresh.{GivesDigests, MeetsTheRules, fresh_content}
+use Rattle.c2_new_file_spec.specs.Store.{new_alg}
+use Rattle.c2_new_file_spec.specs.Written.{HasTexts}
 use Rattle.c2_new_front_spec.specs.Fronts.{IsFrontBuilt, front_store, moved_media, tables_of}
 use Rattle.c2_new_front_spec.specs.Meeting.{ChunkIsThere, place_in_front}
 use Rattle.c2_new_front_spec.specs.Order.{FrontRefusal, bmff_refusals, plan_refusals, reserve_refusals}
@@ -68,7 +68,7 @@ pub record FrontMeets (hash : Alg → List ℕ → List ℕ) (media definition m
   pub store : Tree
   pub is : store ≡ front_store (hash (new_alg new)) (fresh_content new) padded media roots
   pub question : Question
-  pub meets : Meets hash b.file b.start b.len store (question ∷ [])
+  pub meets : MeetsTheRules hash b.file b.start b.len store (question ∷ [])
   pub signed : IsFrontPlanned hash media definition (Ok question.tbs)
   pub base : taken_out b.start b.len b.file ≡ moved_media b.len media roots
   pub bytes : BytesAreThere media roots b

@@ -7,10 +7,10 @@ use Rattle.c2_spec.specs.declared.digest.Alg.{Alg}
 use Rattle.c2_bmff_chunks.specs.Fields.{Covers, all_fields, number_at}
 use Rattle.c2_bmff_chunks.specs.declared.table.ChunkTable.{ChunkTable}
 use Rattle.c2_bmff_chunks.specs.declared.table.Field.{Field}
-use Rattle.c2_new_store_spec.specs.Fresh.{GivesDigests, IsFresh, Meets}
-use Rattle.c2_new_store_spec.specs.Store.{Content, new_claim, new_alg}
-use Rattle.c2_new_store_spec.specs.Written.{CanBeWritten}
-use Rattle.c2_new_bmff_spec.specs.Films.{new_bmff_binding, bmff_len}
+use Rattle.c2_new_file_spec.specs.Fresh.{GivesDigests, IsFresh, MeetsTheRules}
+use Rattle.c2_new_file_spec.specs.Store.{Content, new_claim, new_alg}
+use Rattle.c2_new_file_spec.specs.Written.{CanBeWritten}
+use Rattle.c2_new_file_spec.specs.Films.{new_bmff_binding, bmff_len}
 use Rattle.c2_new_front_spec.specs.Fronts.{CanBuildFront, IsFrontBuilt, front_covered, front_file, front_store, tables_of}
 use Rattle.c2_new_front_spec.specs.InFront.{front_place}
 
@@ -27,7 +27,7 @@ abbrev pub FreshFrontMeets : Type 0
 FreshFrontMeets = (hash : Alg → List ℕ → List ℕ) (c : Content) (message media : List ℕ) (roots : List Box) (p : SignParts)
     → GivesDigests hash → IsFresh c → CanBeWritten c.definition
     → CanBuildFront c (length message) media roots → SpellsMessage message p
-    → Meets hash (front_file (hash (new_alg c.definition)) c message media roots) (front_place roots) (bmff_len c (length message))
+    → MeetsTheRules hash (front_file (hash (new_alg c.definition)) c message media roots) (front_place roots) (bmff_len c (length message))
     (front_store (hash (new_alg c.definition)) c message media roots)
     (front_question (hash (new_alg c.definition)) c (length message) media roots p ∷ [])
 

@@ -23,12 +23,12 @@ use Rattle.c2_definition.specs.declared.types.DefinitionField.{DefinitionField}
 use Rattle.c2_new_signature.specs.Refusals.{reserve_needed}
 use Rattle.c2_new_signature.specs.Signed.{IsPaddable, IsSigned}
 use Rattle.c2_new_signature.specs.declared.error.SignaturePart.{SignaturePart}
-use Rattle.c2_new_store_spec.specs.Built.{HasDigestLen}
-use Rattle.c2_new_store_spec.specs.Fresh.{IsFresh, fresh_content}
-use Rattle.c2_new_store_spec.specs.Store.{new_alg}
-use Rattle.c2_parent_spec.specs.Refusing.{redaction_refusal}
-use Rattle.c2_parent_spec.specs.declared.refused.RefusedRedaction.{RefusedRedaction}
-use Rattle.c2_new_bmff_spec.specs.Films.{AreOthers, bmff_len, bmff_store_size}
+use Rattle.c2_new_file_spec.specs.Built.{HasDigestLen}
+use Rattle.c2_new_file_spec.specs.Fresh.{IsFresh, fresh_content}
+use Rattle.c2_new_file_spec.specs.Store.{new_alg}
+use Rattle.c2_new_file_spec.specs.Refusing.{redaction_refusal}
+use Rattle.c2_new_file_spec.specs.declared.refused.RefusedRedaction.{RefusedRedaction}
+use Rattle.c2_new_file_spec.specs.Films.{AreOthers, bmff_len, bmff_store_size}
 use Rattle.c2_new_front_spec.specs.Fronts.{CanBuildFront, IsFrontBuilt, tables_of}
 use Rattle.c2_new_front_spec.specs.InFront.{front_place, open_first}
 

@@ -16,9 +16,9 @@ use Rattle.c2_definition.specs.declared.types.DefinitionField.{DefinitionField}
 use Rattle.c2_new_signature.specs.Message.{IsAccepted, IsRefused}
 use Rattle.c2_new_signature.specs.Signed.{IsSigned}
 use Rattle.c2_new_signature.specs.declared.error.SignaturePart.{SignaturePart}
-use Rattle.c2_new_store_spec.specs.Fresh.{fresh_content}
-use Rattle.c2_new_store_spec.specs.Store.{new_alg, new_claim}
-use Rattle.c2_new_bmff_spec.specs.Films.{new_bmff_binding, bmff_len}
+use Rattle.c2_new_file_spec.specs.Fresh.{fresh_content}
+use Rattle.c2_new_file_spec.specs.Store.{new_alg, new_claim}
+use Rattle.c2_new_file_spec.specs.Films.{new_bmff_binding, bmff_len}
 use Rattle.c2_new_front_spec.specs.Fronts.{front_covered, front_file}
 use Rattle.c2_new_front_spec.specs.InFront.{front_place}
 use Rattle.c2_new_front_spec.specs.Order.{FrontRefusal, bad_definition, bad_signature, bmff_refusals, front_refusals, media_refused, plan_refusals}

@@ -2,9 +2,9 @@
 use Rattle.std.specs.Prelude.{◌≡◌, ℕ, ◌<◌, true, List, length, take, drop, None}
 use Rattle.c2_spec.specs.Bmff.Boxes.{Box, HasRoots, most_roots}
 use Rattle.c2_spec.specs.Container.{is_bmff}
-use Rattle.c2_new_bmff_spec.specs.Films.{AreOthers}
+use Rattle.c2_new_file_spec.specs.Films.{AreOthers}
 use Rattle.c2_new_front_spec.specs.InFront.{front_place, open_first, others_text}
-use Rattle.c2_new_split_spec.specs.Splits.{HasRoom, IsFree, IsSplit, Split, of_boxes, split_start, split_text}
+use Rattle.c2_new_content_spec.specs.Splits.{HasRoom, IsFree, IsSplit, Split, of_boxes, split_start, split_text}
 
 -- the split behind the first root box
 abbrev pub front_split : List Box → Split

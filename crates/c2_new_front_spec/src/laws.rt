@@ -5,52 +5,23 @@ ghost use Rattle.c2_new_front_spec.specs.Meeting.{BytesOfFrontStay, ChunksOfFron
 ghost use Rattle.c2_new_front_spec.specs.Order.{BuiltIsNotRefused, NothingRefusedIsBuilt, PlannedIsFresh, PlannedIsNotRefused, UnrefusedCanBePlanned};
 ghost use Rattle.c2_new_front_spec.specs.Splits.{FrontIsSplit};
 
-use crate::in_front::a_store_in_front_is_found;
-use c2_bmff_chunks::{a_shifted_file_has_its_boxes, a_shifted_file_is_one, chunk_places_stay_true};
-use c2_bmff_insert_spec::a_put_store_is_not_covered;
-use c2_cbor_spec::sorting_keeps_the_length;
-use c2_new_signature::a_message_fills_its_reserve_or_needs_more;
-use c2_new_split_spec::{a_content_meets_the_rules, the_file_of_a_content_meets_the_rules};
-use c2_new_store_spec::new_stores_have_one_length;
-use c2_parent_spec::redactions_that_pass_may_be_made;
-
 /// There is one file whose new store comes right after the file type box and binds all that its exclusions leave of the file, and in
 /// whose chunk tables the places of the media from there on are moved: the file that the definition `front_file` gives.
 pub fn a_built_front_is_one()
     ensures some { SomeFront }
     ensures once { OneFront }
-{
-    // Only the prover needs these laws.
-    sorting_keeps_the_length();
-    new_stores_have_one_length();
-    a_put_store_is_not_covered();
-    a_store_in_front_is_found();
-    a_shifted_file_is_one();
-    a_shifted_file_has_its_boxes();
-}
+{}
 
 /// Where bytes are put into the media with moved places, behind its file type box, in the box of a store and as many as those of the new
 /// store, the file's root boxes are known, and so is what the exclusions leave of it. So the digest is known before the store is.
 pub fn the_covered_text_is_known_first()
     ensures { CoveredTextIsKnown }
-{
-    // Only the prover needs these laws.
-    a_store_in_front_is_found();
-    a_shifted_file_is_one();
-    a_shifted_file_has_its_boxes();
-}
+{}
 
 /// The file has the new store in the new range, and without that range it is the media with moved places.
 pub fn a_built_front_has_its_store()
     ensures { FrontHasItsStore }
-{
-    // Only the prover needs these laws.
-    sorting_keeps_the_length();
-    new_stores_have_one_length();
-    a_store_in_front_is_found();
-    a_shifted_file_is_one();
-    a_shifted_file_has_its_boxes();
-}
+{}
 
 /// The place right behind the first root box of a BMFF file without a store is a split of it: there is room where that
 /// box says its size and the file may have one box more, and bound are the boxes behind, at their new places.
@@ -62,51 +33,30 @@ pub fn a_front_is_a_split()
 /// It is the media with moved places, with the store put in at that split.
 pub fn a_fresh_front_meets_the_rules()
     ensures { FreshFrontMeets }
-{
-    // Only the prover needs these laws.
-    a_front_is_a_split();
-    a_shifted_file_is_one();
-    a_shifted_file_has_its_boxes();
-    a_content_meets_the_rules();
-    the_file_of_a_content_meets_the_rules();
-}
+{}
 
 /// Each field of a chunk table that told a place of the media after its file type box tells where that byte is in the new file, which
 /// has the same byte there unless it is in a field itself.
 pub fn chunks_of_a_built_front_stay()
     ensures { ChunksOfFrontStay }
-{
-    // Only the prover needs these laws.
-    a_shifted_file_has_its_boxes();
-    chunk_places_stay_true();
-}
+{}
 
 /// All bytes of the media that lie in no moved field of a chunk table are in the new file, in their order: those of its first root box
 /// where they were, and the others behind the store.
 pub fn bytes_of_a_built_front_stay()
     ensures { BytesOfFrontStay }
-{
-    // Only the prover needs this law.
-    a_shifted_file_has_its_boxes();
-}
+{}
 
 /// Of a BMFF file without a store a new file can be planned exactly where nothing is refused of a plan; its definition redacts nothing.
 pub fn a_front_is_refused_or_planned()
     ensures planned { UnrefusedCanBePlanned }
     ensures none { PlannedIsNotRefused }
     ensures fresh { PlannedIsFresh }
-{
-    // Only the prover needs this law.
-    redactions_that_pass_may_be_made();
-}
+{}
 
 /// Of a BMFF file without a store and a message there is a new file, whose message fills what is reserved for it, exactly where nothing
 /// is refused: neither of a plan, nor that the message needs more bytes.
 pub fn a_front_is_refused_or_built()
     ensures built { NothingRefusedIsBuilt }
     ensures none { BuiltIsNotRefused }
-{
-    // Only the prover needs these laws.
-    a_message_fills_its_reserve_or_needs_more();
-    a_built_front_is_one();
-}
+{}

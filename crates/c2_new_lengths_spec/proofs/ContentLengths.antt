@@ -73,7 +73,7 @@ by_class false false true s k e f = refl
 by_class false false false true k e f = refl
 by_class false false false false k e f = refl
 
--- it passes such a byte
+-- the walk over a string passes a byte that neither closes it nor begins an escape
 span_plain : (x : ℕ) (xs : List ℕ) → (x == ascii.quote) ≡ false → (x == ascii.backslash) ≡ false
     → span in_string (x ∷ xs) ≡ 1 + span in_string xs
 unfolding span

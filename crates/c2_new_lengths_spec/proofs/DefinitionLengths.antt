@@ -1,4 +1,5 @@
 -- A definition that a file is, is short: its texts and its lists hold no more than the file has bytes, or thrice that.
+use Rattle.c2_definition.proofs.TheLaws.{definitions_are_well_formed}
 use Rattle.std.proofs.Common.{◌≡◌, ℕ, ◌+◌, ◌*◌, ◌≤◌, Bool, true, false, not, cond, List, [], ◌∷◌, length, codes, Option}
 use Rattle.std.proofs.Common.{Some, None, option_and_then, option_map, Result, Ok, Err, nat_lt, refl, sym, ap, ◌∙◌}
 use Rattle.std.proofs.Common.{subst, arith, if◌then◌else◌}
@@ -14,7 +15,7 @@ use Rattle.serde_json.specs.Find.{as_array, as_str, get}
 use Rattle.serde_json.specs.Read.{read}
 use Rattle.c2_base.specs.declared.limits.TheConstants.{MAX_INPUT_LEN}
 use Rattle.c2_spec.specs.Cbor.Fields.{joined, require}
-use Rattle.c2_definition.specs.DefinitionFile.{IsDefinition, IsWellFormed, alg_in, assertion_from, assertion_of}
+use Rattle.c2_definition.specs.DefinitionFile.{IsDefinition, alg_in, assertion_from, assertion_of}
 use Rattle.c2_definition.specs.DefinitionFile.{assertions_in, definition_of, fields_of, filled_at, hex_at, label_in}
 use Rattle.c2_definition.specs.DefinitionFile.{labels_differ}
 use Rattle.c2_definition.specs.DefinitionFile.{is_assertion_field, is_field, is_filled, is_manifest_label, is_new_label}
@@ -29,14 +30,9 @@ use Rattle.c2_definition.specs.declared.types.Payload.{Payload}
 use Rattle.c2_new_lengths_spec.specs.Lengths.{IsShort, assertions_len, texts_len}
 use Rattle.c2_new_lengths_spec.proofs.JsonLengths.{array_size, data_size, got_size, items_size, read_size, some_size, str_size}
 use Rattle.c2_new_lengths_spec.proofs.JsonLengths.{text_under}
+use Rattle.c2_spec.proofs.CborShared.{required}
 
 -- ---- what is there
-
--- a value that was required is there
-required : {A B E : Type 0} (e : E) (o : Option A) (more : A → Result B E) (y : B) → require e o more ≡ Ok y
-    → (x : A) × (o ≡ Some x) × (more x ≡ Ok y)
-required e None more y h = absurd (cc (h))
-required e (Some x) more y h = (x, refl, h)
 
 -- a value that was kept was there
 was_there : {A : Type 0} (test : A → Bool) (o : Option A) (x : A) → kept test o ≡ Some x → o ≡ Some x
@@ -53,7 +49,7 @@ was_there test (Some y) x h = by (test y) h
 filled_under : (key : List ℕ) (v : Data) (t : List ℕ) → filled_at key v ≡ Some t → length t ≤ data_size v
 filled_under key v t h = text_under key v t (was_there is_filled (text_at key v) t h)
 
--- nor is a text that may be missing
+-- a text that may be missing is no longer than the object
 maybe_under : (key : List ℕ) (v : Data) (o : Option (List ℕ)) → optional_text_at key v ≡ Some o
     → IfSome o (λ t. length t ≤ data_size v)
 maybe_under key v o h = by (get key v) refl h
@@ -73,7 +69,7 @@ maybe_under key v o h = by (get key v) refl h
         subst (λ (x : Option (List ℕ)). IfSome x (λ s. length s ≤ data_size v)) there tt
     by (Some found) is same = is_text found (got_size key v found is) (as_str found) refl same
 
--- nor are bytes that a text of hex digits stands for
+-- bytes that a text of hex digits stands for are no more than the object holds
 hex_under : (key : List ℕ) (v : Data) (bytes : List ℕ) → hex_at key v ≡ Some bytes → length bytes ≤ data_size v
 hex_under key v bytes h = by (text_at key v) refl h
   where
@@ -100,7 +96,7 @@ from_members (Some l) (Some k) (Some b) a e =
     let is : record { label = l; kind = k; bytes = b } ≡ a = cc (e) in
     (ap (λ (x : NewAssertion). Some x.label) is, ap (λ (x : NewAssertion). Some x.bytes) is)
 
--- its label and its bytes are no longer than its object is, each
+-- the label and the bytes of an assertion are no longer than its object is, each
 assertion_size : (v : Data) (a : NewAssertion) → assertion_of v ≡ Some a
     → 1 + length a.label + length a.bytes ≤ 3 * data_size v
 assertion_size v a e = by (has_keys is_assertion_field v) e
@@ -193,7 +189,7 @@ assertions_under v list h =
     (λ vs xs is most le. omega (arith, assertions_size vs xs is, le))
     (was_there labels_differ (optional_list_at assertion_of (codes "assertions") v) list h)
 
--- and its redactions
+-- the redactions of an object together are no longer than it
 redactions_under : (v : Data) (list : List (List ℕ)) → redactions_in v ≡ Some list → texts_len list ≤ 1 * data_size v
 redactions_under v list h =
     listed as_str texts_len 1 (codes "redact") v list refl
@@ -253,15 +249,11 @@ object_read file v h = by (is_utf8 file) (was_there is_object (json_of file) v h
     by true e = e
     by false e = absurd (cc (e))
 
--- definitions that files are, are well formed
-abbrev pub AreWellFormed : Type 0
-AreWellFormed = (file : List ℕ) (d : Definition) → IsDefinition file (Ok d) → IsWellFormed d
-
 -- a definition that a file is, is short
-pub definition_is_short : AreWellFormed → (file : List ℕ) (d : Definition) → IsDefinition file (Ok d) → IsShort d
-definition_is_short formed file d h =
+pub definition_is_short : (file : List ℕ) (d : Definition) → IsDefinition file (Ok d) → IsShort d
+definition_is_short file d h =
     let read_as : Result Definition DefinitionField = require field.Json (object_of file) (definition_of h.payloads) in
     let long = by_length file (nat_lt MAX_INPUT_LEN (length file)) refl read_as d (sym h.is) in
     let there = required field.Json (object_of file) (definition_of h.payloads) d long.0 in
     let size : data_size there.0 ≤ length file = read_size file there.0 (object_read file there.0 there.1) in
-    of_object there.0 h.payloads d (omega (arith, size, long.1)) there.2 (formed file d h).most
+    of_object there.0 h.payloads d (omega (arith, size, long.1)) there.2 (definitions_are_well_formed file d h).most

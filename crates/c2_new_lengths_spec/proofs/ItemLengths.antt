@@ -1,4 +1,5 @@
 -- How many bytes an item is written in at most: nine for each head, and the bytes of its strings.
+use Rattle.c2_cbor_spec.proofs.TheLaws.{sorting_keeps_the_length}
 use Rattle.std.proofs.Common.{◌≡◌, ℕ, ◌+◌, ◌*◌, ◌≤◌, Bool, true, false, cond, ltb, List, [], ◌∷◌, ◌++◌, length, map}
 use Rattle.std.proofs.Common.{arith, length-append}
 use Rattle.std.specs.Int.{w16, w32, w64, to_be_bytes}
@@ -6,7 +7,6 @@ use Rattle.c2_spec.specs.Cbor.Deterministic.{deterministic, preferred, preferred
 use Rattle.c2_spec.specs.Cbor.Item.{Item, uint, nint, bytes, text, list, dict, tag, simple, half, single, double, Items}
 use Rattle.c2_spec.specs.Cbor.Item.{no_items, item, items_len, Pairs, no_pairs, pair, pairs_len}
 use Rattle.c2_spec.specs.Cbor.View.{items_of, pairs_of}
-use Rattle.c2_new_store_spec.proofs.StoreSize.{KeepsLength}
 use Rattle.c2_new_lengths_spec.specs.Lengths.{texts_len}
 
 -- a head has nine bytes at most
@@ -54,7 +54,7 @@ abbrev mutual
   pairs_room no_pairs = 0
   pairs_room (pair k v ps) = room k + room v + pairs_room ps
 
--- so many it is written in
+-- an item is written in at most as many bytes
 mutual
   pub preferred_room : (v : Item) → length (preferred v) ≤ room v
   preferred_room (uint n) = head_most 0 n
@@ -99,9 +99,9 @@ mutual
         pairs_in_room ps,
       )
 
--- its deterministic bytes are as many
-pub deterministic_room : KeepsLength → (v : Item) → length (deterministic v) ≤ room v
-deterministic_room keeps v = omega (arith, keeps v, preferred_room v)
+-- the deterministic bytes of an item are at most as many
+pub deterministic_room : (v : Item) → length (deterministic v) ≤ room v
+deterministic_room v = omega (arith, sorting_keeps_the_length v, preferred_room v)
 
 -- ---- fields and texts
 

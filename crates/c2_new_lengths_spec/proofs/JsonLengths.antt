@@ -45,7 +45,7 @@ abbrev pub tokens_size : List Token → ℕ
 tokens_size [] = 0
 tokens_size (t ∷ ts) = token_size t + tokens_size ts
 
--- those of two lists
+-- the tokens of two lists together hold what those of both do
 both_sizes : (xs ys : List Token) → tokens_size (xs ++ ys) ≡ tokens_size xs + tokens_size ys
 both_sizes [] ys = omega arith
 both_sizes (x ∷ xs) ys = omega (arith, both_sizes xs ys)
@@ -77,7 +77,7 @@ operator_size x =
     by false false false false true = omega arith
     by false false false false false = omega arith
 
--- so does a number
+-- a number holds one byte at most
 number_size : (t : List ℕ) (o : Option (List ℕ)) → token_size (number_before t o) ≤ 1
 number_size t None = omega arith
 number_size t (Some rest) = by (ends_word rest) (take (length t - length rest) t)
@@ -86,7 +86,7 @@ number_size t (Some rest) = by (ends_word rest) (take (length t - length rest) t
     by true s = omega arith
     by false s = omega arith
 
--- so does a literal or what stands in its place
+-- a literal or what stands in its place holds one byte at most
 literal_size : (b : Bool) (t : Token) → token_size t ≤ 1 → token_size (cond b t Token.bad) ≤ 1
 literal_size true t h = h
 literal_size false t h = omega arith
@@ -96,7 +96,7 @@ either_size : (b : Bool) (t u : Token) → token_size t ≤ 1 → token_size u �
 either_size true t u h k = h
 either_size false t u h k = k
 
--- so does a word
+-- a word holds one byte at most
 word_size : (t : List ℕ) → token_size (word t) ≤ 1
 unfolding word
 word_size t =
@@ -231,12 +231,12 @@ abbrev DataAtMost : ℕ → Option Data → Type 0
 DataAtMost n None = ⊤
 DataAtMost n (Some d) = data_size d ≤ n
 
--- the same of items
+-- items that hold no more than this, where there are some
 abbrev ItemsAtMost : ℕ → Option Items → Type 0
 ItemsAtMost n None = ⊤
 ItemsAtMost n (Some ds) = items_size ds ≤ n
 
--- the same of members
+-- members that hold no more than this, where there are some
 abbrev MembersAtMost : ℕ → Option Members → Type 0
 MembersAtMost n None = ⊤
 MembersAtMost n (Some ms) = members_size ms ≤ n
@@ -262,7 +262,7 @@ item_before : (d : Data) (k n : ℕ) (o : Option Items) → ItemsAtMost n o → 
 item_before d k n None h le = tt
 item_before d k n (Some ds) h le = omega (arith, h, le)
 
--- the same, where there is such an item
+-- an item before others holds no more than this with them, where there is one
 item_at_most : (k m n : ℕ) (o : Option Data) (p : Option Items) → DataAtMost m o → ItemsAtMost n p → m + n ≤ k
     → ItemsAtMost k (option_and_then (λ d. option_map (item d) p) o)
 item_at_most k m n None p h f le = tt
@@ -349,7 +349,7 @@ member_size k (member l d ms) v e = by (slice_cmp nat_cmp k l) (member_size k ms
     by Equal later h = let is : d ≡ v = cc (h) in omega (arith, ap data_size is)
     by Greater later h = omega (arith, later h)
 
--- and no more than its object
+-- a value under a key holds no more than its object
 pub got_size : (k : List ℕ) (d v : Data) → get k d ≡ Some v → data_size v ≤ data_size d
 got_size k null v e = absurd (cc (e))
 got_size k (boolean b) v e = absurd (cc (e))
@@ -385,7 +385,7 @@ text_under k d t e = by (get k d) refl e
     by None is h = absurd (cc (h))
     by (Some v) is h = omega (arith, str_size v t h, got_size k d v is)
 
--- and the items of a list under a key hold no more
+-- the items of a list under a key hold no more than the object
 pub items_under : (k : List ℕ) (d : Data) (ds : Items) → option_and_then as_array (get k d) ≡ Some ds
     → items_size ds ≤ data_size d
 items_under k d ds e = by (get k d) refl e

@@ -1,5 +1,6 @@
 pub mod ContentLengths
-pub mod JsonLengths
 pub mod DefinitionLengths
 pub mod ItemLengths
+pub mod JsonLengths
 pub mod StoreLengths
+pub mod TheLaws

@@ -1,4 +1,7 @@
 -- How long a new store of short parts is at most.
+use Rattle.c2_new_file_spec.proofs.BmffLaws.{a_new_bmff_store_has_one_length_binding}
+use Rattle.c2_new_lengths_spec.proofs.DefinitionLengths.{definition_is_short}
+use Rattle.c2_assertion.proofs.TheLaws.{a_written_data_hash_has_one_length_known}
 use Rattle.std.proofs.Common.{◌≡◌, ◌≢◌, ◌⊎◌, inl, inr, ℕ, ◌+◌, ◌*◌, ◌-◌, ◌^◌, ◌<◌, ◌≤◌, List, [], ◌∷◌, ◌++◌, length, map, replicate, codes}
 use Rattle.std.proofs.Common.{Option, Some, None, refl, sym, ◌∙◌, subst, arith, length-append, lit≤}
 use Rattle.std.specs.Prelude.{IfSome}
@@ -22,14 +25,14 @@ use Rattle.c2_assertion.specs.Written.{data_hash_item, ingredient_item, one_excl
 use Rattle.c2_claim.specs.Written.{claim_item, generator_item, redactions_field, signature_uri}
 use Rattle.c2_definition.specs.declared.types.Definition.{Definition}
 use Rattle.c2_definition.specs.declared.types.NewAssertion.{NewAssertion}
-use Rattle.c2_new_store_spec.specs.Built.{bound_len, no_digest, store_size}
-use Rattle.c2_new_store_spec.specs.Store.{Content, NewIngredient, assertion_box, assertion_boxes, claim_with, data_binding, entry_of}
-use Rattle.c2_new_store_spec.specs.Store.{ingredient_assertion, new_alg, new_assertions, new_claim, new_manifest, range_at}
-use Rattle.c2_new_store_spec.specs.Store.{target_ref, written_ingredient}
-use Rattle.c2_new_store_spec.specs.Written.{AreIngredients, IsIngredientLabel}
-use Rattle.c2_new_store_spec.proofs.StoreSize.{KeepsLength, assertion_len, manifest_len, store_len}
-use Rattle.c2_new_bmff_spec.specs.Films.{BindingHasOneLength, new_bmff_binding, bmff_store_size}
-use Rattle.c2_new_lengths_spec.specs.Lengths.{DefinitionsAreShort, BmffStoresAreShort, Fits, IsShort, IsShortBinding, IsShortOver}
+use Rattle.c2_new_file_spec.specs.Built.{bound_len, no_digest, store_size}
+use Rattle.c2_new_file_spec.specs.Store.{Content, NewIngredient, assertion_box, assertion_boxes, claim_with, data_binding, entry_of}
+use Rattle.c2_new_file_spec.specs.Store.{ingredient_assertion, new_alg, new_assertions, new_claim, new_manifest, range_at}
+use Rattle.c2_new_file_spec.specs.Store.{target_ref, written_ingredient}
+use Rattle.c2_new_file_spec.specs.Written.{AreIngredients, IsIngredientLabel}
+use Rattle.c2_new_file_spec.proofs.StoreSize.{assertion_len, manifest_len, store_len}
+use Rattle.c2_new_file_spec.specs.Films.{BindingHasOneLength, new_bmff_binding, bmff_store_size}
+use Rattle.c2_new_lengths_spec.specs.Lengths.{BmffStoresAreShort, Fits, IsShort, IsShortBinding, IsShortOver}
 use Rattle.c2_new_lengths_spec.specs.Lengths.{JpegStoresAreShort, StoresAreShort, StoresFit, assertions_len, texts_len}
 use Rattle.c2_new_lengths_spec.proofs.ItemLengths.{both_rooms, deterministic_room, items_room, pairs_room, room, texts_room}
 
@@ -90,12 +93,12 @@ entries_room alg (a ∷ others) = omega (arith, entry_room alg a, entries_room a
 
 -- ---- assertions
 
--- those of two lists
+-- the assertions of two lists together have the bytes of both
 both_lens : (xs ys : List NewAssertion) → assertions_len (xs ++ ys) ≡ assertions_len xs + assertions_len ys
 both_lens [] ys = omega arith
 both_lens (x ∷ xs) ys = omega (arith, both_lens xs ys)
 
--- their boxes
+-- the boxes of assertions are no longer than 42 times the assertions
 boxes_most : (all : List NewAssertion) → length (trees_bytes (assertion_boxes all)) ≤ 42 * assertions_len all
 boxes_most [] = omega arith
 boxes_most (a ∷ others) =
@@ -133,14 +136,14 @@ ingredient_room alg g =
     )
 
 -- the bytes of its assertion
-ingredient_most : KeepsLength → (alg : Alg) (g : NewIngredient) (n : ℕ) → length g.of.label ≤ n
+ingredient_most : (alg : Alg) (g : NewIngredient) (n : ℕ) → length g.of.label ≤ n
     → length (deterministic (ingredient_item (written_ingredient (no_digest alg) g))) ≤ 1024 + 2 * n
-ingredient_most keeps alg g n label =
+ingredient_most alg g n label =
     let v : Item = ingredient_item (written_ingredient (no_digest alg) g) in
-    at_most (length (deterministic v)) (room v) (1024 + 2 * n) (deterministic_room keeps v)
+    at_most (length (deterministic v)) (room v) (1024 + 2 * n) (deterministic_room v)
     (at_most (room v) (1024 + 2 * length g.of.label) (1024 + 2 * n) (ingredient_room alg g) (omega (arith, label)))
 
--- it has a short label
+-- the label of an ingredient is short
 label_most : (label : List ℕ) → IsIngredientLabel label → length label ≤ 64
 label_most label (inl e) = subst (λ (l : List ℕ). length l ≤ 64) (sym e) (lit≤ tt)
 label_most label (inr e) = subst (λ (l : List ℕ). length l ≤ 64) (sym e) (lit≤ tt)
@@ -149,12 +152,12 @@ label_most label (inr e) = subst (λ (l : List ℕ). length l ≤ 64) (sym e) (l
 abbrev most_ingredient : ℕ
 most_ingredient = 2048 + 4 * MAX_STORE_LEN
 
--- it holds no more
-one_most : KeepsLength → (alg : Alg) (g : NewIngredient) → IsIngredientLabel g.label
+-- an ingredient's assertion holds no more than this most
+one_most : (alg : Alg) (g : NewIngredient) → IsIngredientLabel g.label
     → length g.of.label ≤ 2 * MAX_STORE_LEN
     → 1 + length g.label + length (ingredient_assertion (no_digest alg) g).bytes ≤ most_ingredient
-one_most keeps alg g is label =
-    let bytes = ingredient_most keeps alg g (2 * MAX_STORE_LEN) label in
+one_most alg g is label =
+    let bytes = ingredient_most alg g (2 * MAX_STORE_LEN) label in
     omega (arith, bytes, label_most g.label is)
 
 -- of three labels of two kinds two are the same
@@ -167,11 +170,11 @@ two_same a b x y z (inl p) (inr q) (inr r) yx zx zy = zy (r ∙ sym q)
 two_same a b x y z (inr p) (inl q) (inl r) yx zx zy = zy (r ∙ sym q)
 two_same a b x y z (inr p) (inl q) (inr r) yx zx zy = zx (r ∙ sym p)
 
--- so there are two ingredients at most, which hold no more than this
-ingredients_most : KeepsLength → (alg : Alg) (gs : List NewIngredient) → AreIngredients gs
+-- there are two ingredients at most, which hold no more than this
+ingredients_most : (alg : Alg) (gs : List NewIngredient) → AreIngredients gs
     → AllByRecursion (λ (g : NewIngredient). length g.of.label ≤ 2 * MAX_STORE_LEN) gs
     → assertions_len (map (ingredient_assertion (no_digest alg)) gs) ≤ 2 * most_ingredient
-ingredients_most keeps alg gs are labels = by gs are labels
+ingredients_most alg gs are labels = by gs are labels
   where
     IsNamedShort : NewIngredient → Type 0
     IsNamedShort g = length g.of.label ≤ 2 * MAX_STORE_LEN
@@ -180,7 +183,7 @@ ingredients_most keeps alg gs are labels = by gs are labels
     size g = 1 + length g.label + length (ingredient_assertion (no_digest alg) g).bytes
 
     one : (g : NewIngredient) → IsIngredientLabel g.label → IsNamedShort g → size g ≤ most_ingredient
-    one = one_most keeps alg
+    one = one_most alg
 
     both : (m n : ℕ) → m ≤ most_ingredient → n ≤ most_ingredient → m + (n + 0) ≤ 2 * most_ingredient
     both m n h k = omega (arith, h, k)
@@ -202,29 +205,29 @@ abbrev most_assertions : ℕ
 most_assertions = 1 + 3 * MAX_INPUT_LEN + 2 * most_ingredient + MAX_STORE_LEN
 
 -- all of a new manifest
-all_most : KeepsLength → (alg : Alg) (c : Content) (b : NewAssertion) → IsShort c.definition → IsShortOver c
+all_most : (alg : Alg) (c : Content) (b : NewAssertion) → IsShort c.definition → IsShortOver c
     → IsShortBinding b
     → assertions_len (new_assertions (no_digest alg) c b) ≤ most_assertions
-all_most keeps alg c b short over binding =
+all_most alg c b short over binding =
     let own : List NewAssertion = map (ingredient_assertion (no_digest alg)) c.ingredients in
     omega (
       arith,
       both_lens c.definition.assertions (own ++ b ∷ []),
       both_lens own (b ∷ []),
-      ingredients_most keeps alg c.ingredients over.ingredients over.labels,
+      ingredients_most alg c.ingredients over.ingredients over.labels,
       short.assertions,
       binding,
     )
 
 -- ---- the claim
 
--- its title
+-- the title of a claim is short
 title_room : (o : Option (List ℕ)) → IfSome o (λ t. length t ≤ MAX_INPUT_LEN)
     → pairs_room (pairs_of (field_if (codes "dc:title") text o)) ≤ 64 + MAX_INPUT_LEN
 title_room None h = omega arith
 title_room (Some t) h = omega (arith, h)
 
--- its redactions
+-- the redactions of a claim are short
 redactions_room : (ts : List (List ℕ)) → texts_len ts ≤ MAX_INPUT_LEN
     → pairs_room (pairs_of (redactions_field ts)) ≤ 64 + 9 * MAX_INPUT_LEN
 redactions_room [] h = omega arith
@@ -267,7 +270,7 @@ uri_short d le =
     at_most (length (signature_uri d.label)) (64 + length d.label) (64 + MAX_INPUT_LEN) (signature_uri_len d.label)
     (omega (arith, le))
 
--- its item
+-- the item of a claim is short but for its entries
 claim_room : (d : Definition) (entries : List Ref) → IsShort d
     → room (claim_item (claim_with d entries))
     ≤ 1024 + 13 * MAX_INPUT_LEN + items_room (items_of (map ref_item entries))
@@ -297,27 +300,27 @@ claim_room d entries short =
     (generator_room d.generator short.generator))
 
 -- the new claim
-claim_most : KeepsLength → (alg : Alg) (c : Content) (b : NewAssertion) → IsShort c.definition
+claim_most : (alg : Alg) (c : Content) (b : NewAssertion) → IsShort c.definition
     → length (new_claim (no_digest alg) c b)
     ≤ 1024 + 13 * MAX_INPUT_LEN + 160 * assertions_len (new_assertions (no_digest alg) c b)
-claim_most keeps alg c b short =
+claim_most alg c b short =
     let all : List NewAssertion = new_assertions (no_digest alg) c b in
     let entries : List Ref = map (entry_of (no_digest alg)) all in
     let v : Item = claim_item (claim_with c.definition entries) in
     at_most (length (deterministic v)) (room v) (1024 + 13 * MAX_INPUT_LEN + 160 * assertions_len all)
-    (deterministic_room keeps v)
+    (deterministic_room v)
     (omega (arith, claim_room c.definition entries short, entries_room alg all))
 
 -- ---- the store
 
 -- a new store with a short binding
-pub store_most : KeepsLength → StoresAreShort
-store_most keeps c b short over binding =
+pub store_most : StoresAreShort
+store_most c b short over binding =
     let alg = new_alg c.definition in
     let hash = no_digest alg in
     let message = replicate {A = ℕ} c.definition.reserve 0 in
-    let all = all_most keeps alg c b short over binding in
-    let claim = claim_most keeps alg c b short in
+    let all = all_most alg c b short over binding in
+    let claim = claim_most alg c b short in
     let store = store_len c.carried (new_manifest hash c b message) in
     let manifest = manifest_len c.definition.label (new_assertions hash c b) (new_claim hash c b) message in
     omega (
@@ -350,11 +353,11 @@ data_short one alg start len digest is =
     (one alg digest (range_at start len) is) (omega (arith, (len_bounds alg).1))
 
 -- a new store of a JPEG file
-pub jpeg_most : KeepsLength → DataHashHasOneLength → JpegStoresAreShort
-jpeg_most keeps one c short over =
+pub jpeg_most : JpegStoresAreShort
+jpeg_most c short over =
     let alg = new_alg c.definition in
-    store_most keeps c (data_binding alg 0 0 (zero_digest alg)) short over
-    (data_short one alg 0 0 (zero_digest alg) (zero_len alg))
+    store_most c (data_binding alg 0 0 (zero_digest alg)) short over
+    (data_short a_written_data_hash_has_one_length_known alg 0 0 (zero_digest alg) (zero_len alg))
 
 -- the binding of a BMFF file is short
 bmff_short : BindingHasOneLength → (alg : Alg) (digest : List ℕ) → length digest ≡ digest_len alg
@@ -364,31 +367,24 @@ bmff_short one alg digest is =
     (omega (arith, (len_bounds alg).1))
 
 -- a new store of a BMFF file
-pub bmff_most : KeepsLength → BindingHasOneLength → BmffStoresAreShort
-bmff_most keeps one c short over =
+pub bmff_most : BindingHasOneLength → BmffStoresAreShort
+bmff_most one c short over =
     let alg = new_alg c.definition in
-    store_most keeps c (new_bmff_binding alg (zero_digest alg)) short over
+    store_most c (new_bmff_binding alg (zero_digest alg)) short over
     (bmff_short one alg (zero_digest alg) (zero_len alg))
 
 -- a number below 2^40 is below the greatest one that 64 bits hold
 fits : (n : ℕ) → n < 2 ^ 40 → n < 2 ^ 64 - 1
 fits n h = omega (arith, h)
 
--- what laws of this crate say of stores
-pub record StoreLaws : Type 0 where
-  pub definition : DefinitionsAreShort
-  pub any : StoresAreShort
-  pub jpeg : JpegStoresAreShort
-  pub film : BmffStoresAreShort
-
 -- 64 bits hold the length of a new store of what is short
-short_fits : StoreLaws → (c : Content) → IsShort c.definition → IsShortOver c → Fits c
-short_fits laws c own over = record {
-  any = λ b binding. fits (bound_len c b c.definition.reserve) (laws.any c b own over binding);
-  jpeg = fits (store_size c c.definition.reserve) (laws.jpeg c own over);
-  film = fits (bmff_store_size c c.definition.reserve) (laws.film c own over);
+short_fits : (c : Content) → IsShort c.definition → IsShortOver c → Fits c
+short_fits c own over = record {
+  any = λ b binding. fits (bound_len c b c.definition.reserve) (store_most c b own over binding);
+  jpeg = fits (store_size c c.definition.reserve) (jpeg_most c own over);
+  film = fits (bmff_store_size c c.definition.reserve) ((bmff_most a_new_bmff_store_has_one_length_binding) c own over);
 }
 
--- so of one of a definition that a file is
-pub store_fits : StoreLaws → StoresFit
-store_fits laws file c is over = short_fits laws c (laws.definition file c.definition is) over
+-- 64 bits hold the length of a new store of a definition that a file is
+pub store_fits : StoresFit
+store_fits file c is over = short_fits c (definition_is_short file c.definition is) over

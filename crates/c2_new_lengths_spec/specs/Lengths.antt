@@ -7,10 +7,10 @@ use Rattle.c2_spec.specs.Jumbf.Tree.{Trees, trees_bytes}
 use Rattle.c2_definition.specs.DefinitionFile.{IsDefinition, most_reserve}
 use Rattle.c2_definition.specs.declared.types.Definition.{Definition}
 use Rattle.c2_definition.specs.declared.types.NewAssertion.{NewAssertion}
-use Rattle.c2_new_store_spec.specs.Built.{bound_len, store_size}
-use Rattle.c2_new_store_spec.specs.Store.{Content, NewIngredient}
-use Rattle.c2_new_store_spec.specs.Written.{AreIngredients}
-use Rattle.c2_new_bmff_spec.specs.Films.{bmff_store_size}
+use Rattle.c2_new_file_spec.specs.Built.{bound_len, store_size}
+use Rattle.c2_new_file_spec.specs.Store.{Content, NewIngredient}
+use Rattle.c2_new_file_spec.specs.Written.{AreIngredients}
+use Rattle.c2_new_file_spec.specs.Films.{bmff_store_size}
 
 -- ---- what is short
 
@@ -61,12 +61,12 @@ abbrev pub StoresAreShort : Type 0
 StoresAreShort = (c : Content) (b : NewAssertion) → IsShort c.definition → IsShortOver c → IsShortBinding b
     → bound_len c b c.definition.reserve < 2 ^ 40
 
--- So has the new store of a JPEG file.
+-- The new store of a JPEG file has fewer than 2^40 bytes, where its definition and what is taken over of older stores are short.
 abbrev pub JpegStoresAreShort : Type 0
 JpegStoresAreShort =
     (c : Content) → IsShort c.definition → IsShortOver c → store_size c c.definition.reserve < 2 ^ 40
 
--- So has the new store of a BMFF file.
+-- The new store of a BMFF file has fewer than 2^40 bytes, where its definition and what is taken over of older stores are short.
 abbrev pub BmffStoresAreShort : Type 0
 BmffStoresAreShort =
     (c : Content) → IsShort c.definition → IsShortOver c → bmff_store_size c c.definition.reserve < 2 ^ 40
@@ -78,6 +78,7 @@ pub record Fits (c : Content) : Type 0 where
   pub jpeg : store_size c c.definition.reserve < 2 ^ 64 - 1
   pub film : bmff_store_size c c.definition.reserve < 2 ^ 64 - 1
 
--- So it is where a file is the definition.
+-- The length of a new store is below the greatest number that 64 bits hold, where a file is its definition and what is taken over of older
+-- stores is short.
 abbrev pub StoresFit : Type 0
 StoresFit = (file : List ℕ) (c : Content) → IsDefinition file (Ok c.definition) → IsShortOver c → Fits c

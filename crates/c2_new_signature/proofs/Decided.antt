@@ -24,17 +24,17 @@ use Rattle.c2_new_signature.proofs.Tests.{accepted_parts, header_tested, refused
 
 -- ---- facts that hold or don't
 
--- it holds, or it doesn't
+-- a fact holds, or it doesn't
 abbrev Known : Type 0 → Type 0
 Known P = P ⊎ (P → ⊥)
 
--- both hold, or one doesn't
+-- two facts both hold, or one of them doesn't
 known_both : {P Q : Type 0} → Known P → Known Q → Known (P × Q)
 known_both (inl p) (inl q) = inl (p, q)
 known_both (inl p) (inr isnt) = inr (λ h. isnt h.1)
 known_both (inr isnt) q = inr (λ h. isnt h.0)
 
--- that it doesn't hold, is known where it is known
+-- that a fact doesn't hold is known where the fact is known to hold or not
 known_not : {P : Type 0} → Known P → Known (P → ⊥)
 known_not (inl p) = inr (λ isnt. isnt p)
 known_not (inr isnt) = inl isnt
@@ -60,10 +60,12 @@ known_most a b = by (nat_lt b a) refl
 -- a key's bytes differ from those of others or not
 known_differs : (k : Item) (ps : Pairs) → Known (DiffersFrom k ps)
 known_differs k no_pairs = inl tt
-known_differs k (pair l v ps) = known_both (known_not (known_same (deterministic k) (deterministic l))) (known_differs k ps)
+known_differs k (pair l v ps) =
+    known_both (known_not (known_same (deterministic k) (deterministic l))) (known_differs k ps)
 
 -- the four facts of a pair in a map hold, or one doesn't
-known_pair : (k v : Item) (ps : Pairs) → Known (HasPlainKeys k) → Known (HasPlainKeys v) → Known (DiffersFrom k ps) → Known (PairsHavePlainKeys ps) → Known (PairsHavePlainKeys (pair k v ps))
+known_pair : (k v : Item) (ps : Pairs) → Known (HasPlainKeys k) → Known (HasPlainKeys v) → Known (DiffersFrom k ps)
+    → Known (PairsHavePlainKeys ps) → Known (PairsHavePlainKeys (pair k v ps))
 known_pair k v ps (inl a) (inl b) (inl c) (inl d) = inl (a, b, c, d)
 known_pair k v ps (inr isnt) b c d = inr (λ h. isnt h.0)
 known_pair k v ps (inl a) (inr isnt) c d = inr (λ h. isnt h.1)
@@ -85,12 +87,12 @@ mutual
   known_keys (single n) = inl tt
   known_keys (double n) = inl tt
 
-  -- the same of the items of a list
+  -- the keys in the items of a list are plain or not
   known_items : (vs : Items) → Known (ItemsHavePlainKeys vs)
   known_items no_items = inl tt
   known_items (item v vs) = known_both (known_keys v) (known_items vs)
 
-  -- the same of the pairs of a map
+  -- the keys of the pairs of a map are plain or not
   known_pairs : (ps : Pairs) → Known (PairsHavePlainKeys ps)
   known_pairs no_pairs = inl tt
   known_pairs (pair k v ps) = known_pair k v ps (known_keys k) (known_keys v) (known_differs k ps) (known_pairs ps)
@@ -99,16 +101,19 @@ mutual
 known_legal : (m : Item) (p : SignParts) → IsLegal m → IsMessage m p → Known (IsLegal (tagged_message p))
 known_legal m p legal is = by is.form
   where
-    deep : IsLegal (message_list p) → Known (depth (tagged_message p) ≤ MAX_CBOR_DEPTH) → Known (IsLegal (tagged_message p))
-    deep own (inl shallow) = inl (record { shallow = shallow; distinct = own.distinct; no_bad_simple = own.no_bad_simple })
+    deep : IsLegal (message_list p) → Known (depth (tagged_message p) ≤ MAX_CBOR_DEPTH)
+        → Known (IsLegal (tagged_message p))
+    deep own (inl shallow) =
+        inl (record { shallow = shallow; distinct = own.distinct; no_bad_simple = own.no_bad_simple })
     deep own (inr isnt) = inr (λ h. isnt h.shallow)
 
     by : (m ≡ message_list p) ⊎ (m ≡ tag 18 (message_list p)) → Known (IsLegal (tagged_message p))
     by (inl e) = deep (subst IsLegal e legal) (known_most (depth (tagged_message p)) MAX_CBOR_DEPTH)
     by (inr e) = inl (subst IsLegal e legal)
 
--- it is plain or not
-known_plain : (p : SignParts) → Known (IsLegal (tagged_message p)) → Known (HasPlainKeys (tagged_message p)) → Known (IsPlainMessage p)
+-- a message is plain or not
+known_plain : (p : SignParts) → Known (IsLegal (tagged_message p)) → Known (HasPlainKeys (tagged_message p))
+    → Known (IsPlainMessage p)
 known_plain p (inl legal) (inl keys) = inl (record { legal = legal; plain = keys })
 known_plain p (inl legal) (inr isnt) = inr (λ h. isnt h.plain)
 known_plain p (inr isnt) keys = inr (λ h. isnt h.legal)
@@ -116,15 +121,19 @@ known_plain p (inr isnt) keys = inr (λ h. isnt h.legal)
 -- ---- the tests of the parts
 
 -- which test of a header's entries fails first, where they are few
-few_tested : (entries : Pairs) → pairs_len entries ≤ MAX_HEADER_ENTRIES → (first second : Bool) → first ≡ is_some (first_value (codes "pad") entries) → second ≡ is_some (first_value (codes "pad2") entries)
+few_tested : (entries : Pairs) → pairs_len entries ≤ MAX_HEADER_ENTRIES → (first second : Bool)
+    → first ≡ is_some (first_value (codes "pad") entries) → second ≡ is_some (first_value (codes "pad2") entries)
     → (t : Option SignaturePart) × EntriesTested entries t
 few_tested entries few true second e f = (Some part.Pad, (few, has_first entries true e refl))
 few_tested entries few false true e f = (Some part.Pad, (few, has_second entries true f refl))
 few_tested entries few false false e f = (None, (few, has_neither entries false false e refl f refl))
 
 -- which test of a header's entries fails first
-entries_tested : (entries : Pairs) → Known (pairs_len entries ≤ MAX_HEADER_ENTRIES) → (t : Option SignaturePart) × EntriesTested entries t
-entries_tested entries (inl few) = few_tested entries few (is_some (first_value (codes "pad") entries)) (is_some (first_value (codes "pad2") entries)) refl refl
+entries_tested : (entries : Pairs) → Known (pairs_len entries ≤ MAX_HEADER_ENTRIES)
+    → (t : Option SignaturePart) × EntriesTested entries t
+entries_tested entries (inl few) =
+    few_tested entries few (is_some (first_value (codes "pad") entries)) (is_some (first_value (codes "pad2") entries))
+    refl refl
 entries_tested entries (inr many) = (Some part.Entries, many)
 
 -- which test of a header fails first
@@ -142,7 +151,8 @@ some_header (single n) = (None, tt)
 some_header (double n) = (None, tt)
 
 -- which test of the parts fails first
-some_parts : (protected : List ℕ) (p : SignParts) → Known (IsPlainMessage p) → Known (p.protected ≡ protected) → (t : Option SignaturePart) × PartsTested protected p t
+some_parts : (protected : List ℕ) (p : SignParts) → Known (IsPlainMessage p) → Known (p.protected ≡ protected)
+    → (t : Option SignaturePart) × PartsTested protected p t
 some_parts protected p (inr isnt) own = (Some part.Plain, inl (refl, isnt))
 some_parts protected p (inl plain) (inr other) = (Some part.Protected, inr (plain, inl (refl, other)))
 some_parts protected p (inl plain) (inl own) = let tested = some_header p.unprotected in (tested.0, header_tested protected p tested.0 plain own tested.1)
@@ -152,42 +162,63 @@ some_parts protected p (inl plain) (inl own) = let tested = some_header p.unprot
 -- what laws of items and messages say
 pub record MessageLaws : Type 0 where
   pub one_item : OneItem
-  pub each_list : (s : List ℕ) → All (λ b. b < 2 ^ 8) s → length s < 2 ^ 64 → ((v : Item) × HasItem s v) ⊎ ((e : CborError) × IsUnread s e)
-  pub never_both : (s : List ℕ) → All (λ b. b < 2 ^ 8) s → length s < 2 ^ 64 → (v : Item) (e : CborError) → HasItem s v → IsUnread s e → ⊥
+  pub each_list : (s : List ℕ) → All (λ b. b < 2 ^ 8) s → length s < 2 ^ 64
+      → ((v : Item) × HasItem s v) ⊎ ((e : CborError) × IsUnread s e)
+  pub never_both : (s : List ℕ) → All (λ b. b < 2 ^ 8) s → length s < 2 ^ 64 → (v : Item) (e : CborError) → HasItem s v
+      → IsUnread s e → ⊥
   pub each_message : (v : Item) → ((p : SignParts) × IsMessage v p) ⊎ ((p : SignParts) → IsMessage v p → ⊥)
 
 -- bytes that are an item spell a message or none
-known_item : MessageLaws → (s : List ℕ) (v : Item) → HasItem s v → ((p : SignParts) × IsMessage v p) ⊎ ((p : SignParts) → IsMessage v p → ⊥) → ((p : SignParts) × SpellsMessage s p) ⊎ ((p : SignParts) → SpellsMessage s p → ⊥)
-known_item laws s v has (inl (p, is)) = inl (p, record { message = v; legal = has.legal; spelled = has.spelled; is = is })
-known_item laws s v has (inr none) = inr (λ p h. none p (subst (λ (w : Item). IsMessage w p) (laws.one_item h.message v s h.spelled has.spelled) h.is))
+known_item : MessageLaws → (s : List ℕ) (v : Item) → HasItem s v
+    → ((p : SignParts) × IsMessage v p) ⊎ ((p : SignParts) → IsMessage v p → ⊥)
+    → ((p : SignParts) × SpellsMessage s p) ⊎ ((p : SignParts) → SpellsMessage s p → ⊥)
+known_item laws s v has (inl (p, is)) =
+    inl (p, record { message = v; legal = has.legal; spelled = has.spelled; is = is })
+known_item laws s v has (inr none) =
+    inr (λ p h. none p (subst (λ (w : Item). IsMessage w p) (laws.one_item h.message v s h.spelled has.spelled) h.is))
 
 -- bytes spell a message or none
-known_message : MessageLaws → (s : List ℕ) → All (λ b. b < 2 ^ 8) s → length s < 2 ^ 64 → ((p : SignParts) × SpellsMessage s p) ⊎ ((p : SignParts) → SpellsMessage s p → ⊥)
+known_message : MessageLaws → (s : List ℕ) → All (λ b. b < 2 ^ 8) s → length s < 2 ^ 64
+    → ((p : SignParts) × SpellsMessage s p) ⊎ ((p : SignParts) → SpellsMessage s p → ⊥)
 known_message laws s all short = by (laws.each_list s all short)
   where
-    by : ((v : Item) × HasItem s v) ⊎ ((e : CborError) × IsUnread s e) → ((p : SignParts) × SpellsMessage s p) ⊎ ((p : SignParts) → SpellsMessage s p → ⊥)
+    by : ((v : Item) × HasItem s v) ⊎ ((e : CborError) × IsUnread s e)
+        → ((p : SignParts) × SpellsMessage s p) ⊎ ((p : SignParts) → SpellsMessage s p → ⊥)
     by (inl (v, has)) = known_item laws s v has (laws.each_message v)
-    by (inr (e, unread)) = inr (λ p h. laws.never_both s all short h.message e (record { legal = h.legal; spelled = h.spelled }) unread)
+    by (inr (e, unread)) =
+        inr (λ p h. laws.never_both s all short h.message e (record { legal = h.legal; spelled = h.spelled }) unread)
 
 -- ---- all tests
 
 -- bytes that spell a message are accepted, or refused for a test
-of_parts : MessageLaws → (protected s : List ℕ) (p : SignParts) → length s ≤ MAX_INPUT_LEN → SpellsMessage s p → (t : Option SignaturePart) → PartsTested protected p t → IsAccepted protected s ⊎ ((test : SignaturePart) × IsRefused protected s test)
-of_parts laws protected s p small spelled None h = inl (accepted_parts protected s p small spelled (λ q k. same_message laws.one_item s p q spelled k) h)
-of_parts laws protected s p small spelled (Some test) h = inr (test, refused_parts protected s p test small spelled (λ q k. same_message laws.one_item s p q spelled k) h)
+of_parts : MessageLaws → (protected s : List ℕ) (p : SignParts) → length s ≤ MAX_INPUT_LEN → SpellsMessage s p
+    → (t : Option SignaturePart) → PartsTested protected p t
+    → IsAccepted protected s ⊎ ((test : SignaturePart) × IsRefused protected s test)
+of_parts laws protected s p small spelled None h =
+    inl (accepted_parts protected s p small spelled (λ q k. same_message laws.one_item s p q spelled k) h)
+of_parts laws protected s p small spelled (Some test) h =
+    inr (test, refused_parts protected s p test small spelled (λ q k. same_message laws.one_item s p q spelled k) h)
 
--- the same whether or not they spell a message
-of_message : MessageLaws → (protected s : List ℕ) → length s ≤ MAX_INPUT_LEN → ((p : SignParts) × SpellsMessage s p) ⊎ ((p : SignParts) → SpellsMessage s p → ⊥) → IsAccepted protected s ⊎ ((test : SignaturePart) × IsRefused protected s test)
+-- bytes that aren't too many are accepted, or refused for a test, whether or not they spell a message
+of_message : MessageLaws → (protected s : List ℕ) → length s ≤ MAX_INPUT_LEN
+    → ((p : SignParts) × SpellsMessage s p) ⊎ ((p : SignParts) → SpellsMessage s p → ⊥)
+    → IsAccepted protected s ⊎ ((test : SignaturePart) × IsRefused protected s test)
 of_message laws protected s small (inl (p, spelled)) =
-    let tested = some_parts protected p (known_plain p (known_legal spelled.message p spelled.legal spelled.is) (known_keys (tagged_message p))) (known_same p.protected protected) in
+    let tested =
+    some_parts protected p
+    (known_plain p (known_legal spelled.message p spelled.legal spelled.is) (known_keys (tagged_message p)))
+    (known_same p.protected protected) in
     of_parts laws protected s p small spelled tested.0 tested.1
 of_message laws protected s small (inr none) = inr (part.Form, inr (small, inl (refl, λ some. none some.0 some.1)))
 
--- the same whether or not they are few
-of_size : MessageLaws → (protected s : List ℕ) → All (λ b. b < 2 ^ 8) s → Known (length s ≤ MAX_INPUT_LEN) → IsAccepted protected s ⊎ ((test : SignaturePart) × IsRefused protected s test)
-of_size laws protected s all (inl small) = of_message laws protected s small (known_message laws s all (omega (arith, small)))
+-- bytes are accepted, or refused for a test, whether or not they are few
+of_size : MessageLaws → (protected s : List ℕ) → All (λ b. b < 2 ^ 8) s → Known (length s ≤ MAX_INPUT_LEN)
+    → IsAccepted protected s ⊎ ((test : SignaturePart) × IsRefused protected s test)
+of_size laws protected s all (inl small) =
+    of_message laws protected s small (known_message laws s all (omega (arith, small)))
 of_size laws protected s all (inr large) = inr (part.Size, inl (refl, large))
 
 -- bytes are accepted, or refused for a test
-pub accepted_or_refused : MessageLaws → (protected s : List ℕ) → All (λ b. b < 2 ^ 8) s → IsAccepted protected s ⊎ ((test : SignaturePart) × IsRefused protected s test)
+pub accepted_or_refused : MessageLaws → (protected s : List ℕ) → All (λ b. b < 2 ^ 8) s
+    → IsAccepted protected s ⊎ ((test : SignaturePart) × IsRefused protected s test)
 accepted_or_refused laws protected s all = of_size laws protected s all (known_most (length s) MAX_INPUT_LEN)

@@ -1,5 +1,6 @@
+mod Decided
 mod HeaderEntries
-mod Tests
 mod Padded
 mod SignedLaws
-mod Decided
+mod Tests
+pub mod TheLaws

@@ -17,16 +17,18 @@ pub below_bare : (reserve bare : ℕ) → reserve < bare → reserve_needed rese
 below_bare reserve bare less = grind (arith, nat_tests)
 
 -- a reserve that leaves one to four bytes needs five
-pub little_left : (reserve bare : ℕ) → bare < reserve → reserve < bare + least_padding → reserve_needed reserve bare ≡ Some (bare + least_padding)
+pub little_left : (reserve bare : ℕ) → bare < reserve → reserve < bare + least_padding
+    → reserve_needed reserve bare ≡ Some (bare + least_padding)
 little_left reserve bare more less = grind (arith, nat_tests)
 
 -- one that leaves none, or five and more, is enough
-pub enough : (reserve bare : ℕ) → bare ≤ reserve → ((1 ≤ reserve - bare) × (reserve - bare ≤ 4) → ⊥) → reserve_needed reserve bare ≡ None
+pub enough : (reserve bare : ℕ) → bare ≤ reserve → ((1 ≤ reserve - bare) × (reserve - bare ≤ 4) → ⊥)
+    → reserve_needed reserve bare ≡ None
 enough reserve bare fits other = grind (arith, nat_tests)
 
 -- ---- the fill of what is left
 
--- it costs what is left
+-- the fill of what is left costs what is left
 pub is_fill : FillsAreExact → (need : ℕ) (f : Fill) → fill_of need ≡ Some f → IsFill need f
 is_fill exact need f e = subst (λ (o : Option Fill). MatchOption o (HasNoFill need) (IsFill need)) e (exact need)
 
@@ -35,7 +37,8 @@ no_fill : FillsAreExact → (need : ℕ) → fill_of need ≡ None → HasNoFill
 no_fill exact need e = subst (λ (o : Option Fill). MatchOption o (HasNoFill need) (IsFill need)) e (exact need)
 
 -- where nothing fills what is left of a reserve within the limit, it needs as many bytes as leave the shortest padding
-pub unfilled : FillsAreExact → (reserve bare : ℕ) → reserve ≤ MAX_FILL → bare ≤ reserve → fill_of (reserve - bare) ≡ None → reserve_needed reserve bare ≡ Some (bare + least_padding)
+pub unfilled : FillsAreExact → (reserve bare : ℕ) → reserve ≤ MAX_FILL → bare ≤ reserve
+    → fill_of (reserve - bare) ≡ None → reserve_needed reserve bare ≡ Some (bare + least_padding)
 unfilled exact reserve bare most fits e = go (no_fill exact (reserve - bare) e)
   where
     go : HasNoFill (reserve - bare) → reserve_needed reserve bare ≡ Some (bare + least_padding)
@@ -43,8 +46,10 @@ unfilled exact reserve bare most fits e = go (no_fill exact (reserve - bare) e)
     go (inr many) = absurd (omega arith)
 
 -- the message with the fill of what is left fills the reserve
-pub signed : FillsAreExact → (p : SignParts) (reserve bare : ℕ) (f : Fill) (message : List ℕ) → bare ≡ length (bare_bytes p) → bare ≤ reserve → fill_of (reserve - bare) ≡ Some f
-    → message ≡ padded_bytes p (fill_pairs f) → length message ≡ length (bare_bytes p) + fill_cost f → SpellsMessage message (padded_read p (fill_pairs f)) → IsSigned p reserve message
+pub signed : FillsAreExact → (p : SignParts) (reserve bare : ℕ) (f : Fill) (message : List ℕ)
+    → bare ≡ length (bare_bytes p) → bare ≤ reserve → fill_of (reserve - bare) ≡ Some f
+    → message ≡ padded_bytes p (fill_pairs f) → length message ≡ length (bare_bytes p) + fill_cost f
+    → SpellsMessage message (padded_read p (fill_pairs f)) → IsSigned p reserve message
 signed exact p reserve bare f message is fits wanted written longer spelled = record {
   fits = subst (λ (n : ℕ). n ≤ reserve) is fits;
   fill = f;

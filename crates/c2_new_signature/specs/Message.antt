@@ -42,7 +42,7 @@ Passes protected bytes test = (p : SignParts) → SpellsMessage bytes p → Part
 abbrev pub parts_tests : List SignaturePart
 parts_tests = part.Plain ∷ part.Protected ∷ part.Entries ∷ part.Pad ∷ []
 
--- all tests, in their order
+-- all tests of a signed message, in their order
 abbrev pub message_tests : List SignaturePart
 message_tests = part.Size ∷ part.Form ∷ parts_tests
 

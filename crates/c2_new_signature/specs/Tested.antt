@@ -15,7 +15,7 @@ EntriesTested entries (Some part.Entries) = AreFew entries → ⊥
 EntriesTested entries (Some part.Pad) = AreFew entries × (HasNoPadding entries → ⊥)
 EntriesTested entries (Some other) = ⊥
 
--- the same of a header that may be no map
+-- the first test that fails of an unprotected header, of which only a map is tested
 abbrev pub HeaderTested : Item → Option SignaturePart → Type 0
 HeaderTested (dict entries) tested = EntriesTested entries tested
 HeaderTested v None = Unit {0}

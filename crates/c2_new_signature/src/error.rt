@@ -4,20 +4,20 @@ use c2_base::NoMemory as OutOfMemory;
 /// What is refused of a signed message, in the order in which it is tested.
 #[derive(Clone, Copy, Debug, PartialEq, Eq)]
 pub enum SignaturePart {
-    /// It is longer than `MAX_INPUT_LEN` bytes.
+    /// The message is longer than `MAX_INPUT_LEN` bytes.
     Size,
 
-    /// It is no COSE_Sign1 message with a detached payload (RFC 9052, section 4.2).
+    /// The bytes are no COSE_Sign1 message with a detached payload (RFC 9052, section 4.2).
     Form,
 
-    /// Two keys of a map in it come to the same bytes in deterministic encoding (RFC 8949, section 4.2.1): a reader of what is written of
-    /// it would find the key twice.
+    /// Two keys of a map in the message come to the same bytes in deterministic encoding (RFC 8949, section 4.2.1): a reader of what is
+    /// written of it would find the key twice.
     Plain,
 
-    /// Its protected header isn't the wanted one.
+    /// The protected header of the message isn't the wanted one.
     Protected,
 
-    /// More than `MAX_HEADER_ENTRIES` parameters stand in its unprotected header.
+    /// More than `MAX_HEADER_ENTRIES` parameters stand in the unprotected header of the message.
     Entries,
 
     /// One of these parameters is named `pad` or `pad2`, as the padding is.

@@ -41,8 +41,6 @@ pub fn padded_message(alloc: Global, sign: &Sign1, reserve: u32) -> Result<Blob,
     ensures refused { IfErr result
         (RefusesReserve reserve (length (bare_bytes (parts_of sign.now)))) }
 {
-    // Only the prover needs this law.
-    c2_pad::fills_are_exact();
     let bare = bare_len(alloc, sign)?;
     let reserve = reserve as u64;
     if reserve < bare {

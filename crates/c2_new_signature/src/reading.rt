@@ -88,11 +88,11 @@ fn parts_fault(
 /// `BadSignature` comes with the first test that it fails, in the order of `SignaturePart`.
 pub fn read_message(alloc: Global, protected: &[u8], bytes: &[u8]) -> Result<Sign1, MessageError>
     ensures read { IfOk result (λ sign. SpellsMessage bytes.now (parts_of sign)) }
-    // It has the wanted protected header, and can be padded.
+    // A message that is accepted has the wanted protected header, and can be padded.
     ensures protected { IfOk result (λ sign. sign.protected ≡ protected.now) }
     ensures padded { IfOk result (λ sign.
         (entries : Pairs) × CanBePadded (parts_of sign) entries) }
-    // It passes all tests; what is refused fails the test of its refusal first.
+    // Bytes that are accepted pass all tests; bytes that are refused fail the test of the refusal first.
     ensures accepted { IfOk result (λ _. IsAccepted protected.now bytes.now) }
     ensures refused { IfErr result (RefusesMessage protected.now bytes.now) }
 {

@@ -2,3 +2,4 @@ mod Finding
 mod OneMedia
 mod OneOpening
 mod Reading
+pub mod TheLaws

@@ -49,10 +49,10 @@ IsWithin len (opened.Refused reason number) =
     (e : MediaError) × IsRefusalOf len e × (refusal e ≡ Some (refused reason number))
 
 -- the cause of an error, by the source's count of faults before and after: no judge is asked
-abbrev pub IsCause : ℕ → ℕ → ValidateError → Type 0
-IsCause before now ReadFault = Rose before now
-IsCause before now JudgeFault = ⊥
-IsCause before now NoMemory = ⊤
+abbrev pub IsOpeningCause : ℕ → ℕ → ValidateError → Type 0
+IsOpeningCause before now ReadFault = Rose before now
+IsOpeningCause before now JudgeFault = ⊥
+IsOpeningCause before now NoMemory = ⊤
 
 -- for a private clause: the error that an error of the container stands for
 abbrev pub IsErrorOf : MediaError → ValidateError → Type 0
@@ -73,11 +73,11 @@ HasBoxes (read.Here t s) = IsStoreOf t s
 HasBoxes (read.Refused reason number) = ⊤
 
 -- the bytes of a store that was found are this as a store of manifests
-pub record IsRead (f : Found) (r : StoreRead) : Type 0 where
+pub record IsStoreRead (f : Found) (r : StoreRead) : Type 0 where
   pub store : IsManifestStore f.start f.length f.store (tree_of f r)
   pub boxes : HasBoxes r
 
 -- the bytes are this as a store of manifests, whatever range they are said to stand in
 abbrev pub IsReadFrom : List ℕ → StoreRead → Type 0
 IsReadFrom bytes r =
-    (start len : ℕ) → IsRead (record { start = start; length = len; store = bytes }) r
+    (start len : ℕ) → IsStoreRead (record { start = start; length = len; store = bytes }) r

@@ -2,10 +2,10 @@
 ghost use Rattle.std.specs.Prelude.{◌≡◌, ℕ, List, None, Some, Ok, IfOk, IfErr, OnOk};
 ghost use Rattle.std.specs.Option.{ForSome};
 ghost use Rattle.c2_base.specs.Source.{StaysSource};
-ghost use Rattle.c2_spec.specs.Located.{refusal, said};
+ghost use Rattle.c2_spec.specs.Located.{refusal, as_located};
 ghost use Rattle.c2_spec.specs.Reason.{media_refusal};
 ghost use Rattle.c2_container.specs.Contained as contained;
-ghost use Rattle.c2_opening.specs.Opened.{HasContainer, IsCause, IsErrorOf, IsFound, IsWithin, located_of};
+ghost use Rattle.c2_opening.specs.Opened.{HasContainer, IsOpeningCause, IsErrorOf, IsFound, IsWithin, located_of};
 
 use crate::error::ValidateError;
 use crate::types::{Media, Opened};
@@ -26,7 +26,7 @@ pub fn find_store<S: Source>(alloc: Global, source: &mut S) -> Result<Opened, Va
 
     // These hold of every source.
     ensures within { IfOk result (IsWithin (S.len source.old)) }
-    ensures cause { IfErr result (IsCause (S.faults source.old) (S.faults source.new)) }
+    ensures cause { IfErr result (IsOpeningCause (S.faults source.old) (S.faults source.new)) }
     ensures count { OnOk result (S.faults source.new ≡ S.faults source.old) }
     ensures stays { StaysSource S.len S.known S.faults source.old source.new }
 {
@@ -39,7 +39,7 @@ pub fn find_store<S: Source>(alloc: Global, source: &mut S) -> Result<Opened, Va
 
 // A file that isn't refused.
 fn unrefused(read: Contained) -> Opened
-    ensures value { said (Ok read.found) ≡ Some (located_of result) }
+    ensures value { as_located (Ok read.found) ≡ Some (located_of result) }
     ensures container { (file : List ℕ) → contained.IsContainerOf file read.container
         → HasContainer file result }
     ensures within { (len : ℕ) → contained.IsWithin len read → IsWithin len result }

@@ -9,20 +9,13 @@ ghost use Rattle.c2_container.specs.Contained.{IsContainerOf};
 ghost use Rattle.c2_container.specs.declared.types.Container.{Container};
 ghost use Rattle.c2_opening.specs.Media.{IsMediaOf};
 
-use c2_bmff_boxes::a_file_has_one_list_of_roots;
-use c2_container::each_media_file_is_located;
-use c2_jumbf::each_list_is_a_tree_or_not;
-
 /// A file is opened as one thing at most, and so is a store that was found.
 pub fn one_opening()
     ensures store { (start len : ℕ) (store : List ℕ) (a b : Opening Tree)
         → IsManifestStore start len store a → IsManifestStore start len store b → a ≡ b }
     ensures file { (file : List ℕ) (a b : Opening Tree) → IsOpened file a → IsOpened file b
         → a ≡ b }
-{
-    each_media_file_is_located();
-    each_list_is_a_tree_or_not();
-}
+{}
 
 /// A file is media in one way at most, and that with the container that was read of it; a file with a store has a container.
 pub fn one_media()
@@ -33,6 +26,4 @@ pub fn one_media()
     ensures stored { (file : List ℕ) (start len : ℕ) (store : List ℕ)
         → form.IsLocated file (here start len store)
         → (c : form.Container) × form.IsContainer file c }
-{
-    a_file_has_one_list_of_roots();
-}
+{}

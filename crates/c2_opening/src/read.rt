@@ -1,6 +1,6 @@
 // A store's bytes as a store of manifests.
 ghost use Rattle.std.specs.Prelude.{IfOk};
-ghost use Rattle.c2_opening.specs.Opened.{IsRead, IsReadFrom};
+ghost use Rattle.c2_opening.specs.Opened.{IsStoreRead, IsReadFrom};
 
 use crate::types::StoreRead;
 use c2_base::{Found, NoMemory};
@@ -33,7 +33,7 @@ pub fn read_tree<'t>(alloc: Global, bytes: &'t [u8]) -> Result<StoreRead<'t>, No
 /// The box tree of a store that was found in a file, and the boxes of its manifests; or the first test that fails, as [`read_tree`]
 /// answers it.
 pub fn read_store<'t>(alloc: Global, found: &'t Found) -> Result<StoreRead<'t>, NoMemory>
-    ensures { IfOk result (IsRead found.now) }
+    ensures { IfOk result (IsStoreRead found.now) }
 {
     read_tree(alloc, found.store.as_slice())
 }

@@ -8,7 +8,7 @@ use c2_store::Store;
 /// A media file that has a manifest store.
 #[derive(Drop)]
 pub struct Media {
-    /// Its container.
+    /// The container of the media file.
     pub container: Container,
 
     /// The embedded range and the store's bytes.
@@ -18,13 +18,13 @@ pub struct Media {
 /// What a media file is as a container of a manifest store.
 #[derive(Drop)]
 pub enum Opened {
-    /// It has a store.
+    /// The media file has a store.
     Here(Media),
 
-    /// It has none.
+    /// The media file has no store.
     NoStore(Container),
 
-    /// It is refused, with the number that belongs to the reason.
+    /// The media file is refused, with the number that belongs to the reason.
     Refused(Reason, u64),
 }
 

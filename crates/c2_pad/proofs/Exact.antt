@@ -33,12 +33,17 @@ abbrev Costs : ℕ → Option Fill → Type 0
 Costs need f = MatchOption f (HasNoFill need) (IsFill need)
 
 -- a first entry alone, whose head has so many bytes
-alone : (need n head : ℕ) → head_len n ≡ head → need ≡ 4 + (head + n) → 5 ≤ need → need ≤ 1048576 → Costs need (Some (record { pad = Some n; pad2 = None }))
-alone need n head is at ge most = record { cost = omega (arith, one_cost n, is, at); some = has_fill need (inr ge) most }
+alone : (need n head : ℕ) → head_len n ≡ head → need ≡ 4 + (head + n) → 5 ≤ need → need ≤ 1048576
+    → Costs need (Some (record { pad = Some n; pad2 = None }))
+alone need n head is at ge most =
+    record { cost = omega (arith, one_cost n, is, at); some = has_fill need (inr ge) most }
 
 -- a first entry whose head has so many bytes, and an empty one
-with_second : (need n head : ℕ) → head_len n ≡ head → need ≡ 10 + (head + n) → need ≤ 1048576 → Costs need (Some (record { pad = Some n; pad2 = Some 0 }))
-with_second need n head is at most = record { cost = omega (arith, two_cost n 0, is, at, head_1 0 (omega arith)); some = has_fill need (inr (omega (arith, at))) most }
+with_second : (need n head : ℕ) → head_len n ≡ head → need ≡ 10 + (head + n) → need ≤ 1048576
+    → Costs need (Some (record { pad = Some n; pad2 = Some 0 }))
+with_second need n head is at most =
+    record
+    { cost = omega (arith, two_cost n 0, is, at, head_1 0 (omega arith)); some = has_fill need (inr (omega (arith, at))) most }
 
 -- the rows cost what is needed
 pub exact : FillsAreExact
@@ -60,7 +65,9 @@ exact = by_rows Costs (record {
 
 -- what is said of each row: if the fill has a second entry, no first entry alone costs so much
 abbrev NeedsTwo : ℕ → Option Fill → Type 0
-NeedsTwo need o = (f : Fill) (second : ℕ) → o ≡ Some f → f.pad2 ≡ Some second → (zeros : ℕ) → fill_cost (record { pad = Some zeros; pad2 = None }) ≢ need
+NeedsTwo need o =
+    (f : Fill) (second : ℕ) → o ≡ Some f → f.pad2 ≡ Some second → (zeros : ℕ) → fill_cost
+    (record { pad = Some zeros; pad2 = None }) ≢ need
 
 -- a row without a second entry
 without : (need : ℕ) (g : Fill) → g.pad2 ≡ None → NeedsTwo need (Some g)

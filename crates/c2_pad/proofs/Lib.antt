@@ -1,3 +1,4 @@
 pub mod Costs
 pub mod Exact
 pub mod Rows
+pub mod TheLaws

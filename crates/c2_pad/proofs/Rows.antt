@@ -34,7 +34,10 @@ by_rows P rows need =
     upto 1048576 (λ most. rows.heads_of_5 need (omega arith) most) (λ more. rows.too_many need more))))))))))
   where
     one : (n : ℕ) {x y : Option Fill} → P n x → ((need ≡ n → ⊥) → P need y) → P need (cond (eqb need n) x y)
-    one n {x} {y} at other = cond_both (eqb need n) x y (P need) (λ e. subst (λ k. P k x) (sym (eqb-true need n e)) at) (λ e. other (eqb-false need n e))
+    one n {x} {y} at other =
+        cond_both (eqb need n) x y (P need) (λ e. subst (λ k. P k x) (sym (eqb-true need n e)) at)
+        (λ e. other (eqb-false need n e))
 
     upto : (n : ℕ) {x y : Option Fill} → (need ≤ n → P need x) → (n < need → P need y) → P need (cond (leb need n) x y)
-    upto n {x} {y} within behind = cond_both (leb need n) x y (P need) (λ e. within (leb-true need n e)) (λ e. behind (leb-false need n e))
+    upto n {x} {y} within behind =
+        cond_both (leb need n) x y (P need) (λ e. within (leb-true need n e)) (λ e. behind (leb-false need n e))

@@ -56,7 +56,7 @@ fill_of need =
 abbrev pub HasNoFill : ℕ → Type 0
 HasNoFill need = ((1 ≤ need) × (need ≤ 4)) ⊎ (MAX_FILL < need)
 
--- it costs what is needed, and the need has a fill
+-- the fill costs what is needed, and the need is one that has a fill
 pub record IsFill (need : ℕ) (f : Fill) : Type 0 where
   pub cost : fill_cost f ≡ need
   pub some : HasNoFill need → ⊥

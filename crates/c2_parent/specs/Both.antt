@@ -5,8 +5,8 @@ use Rattle.c2_rules.specs.Readings.{Reading}
 use Rattle.c2_rules.specs.Rules.{redaction_tests}
 use Rattle.c2_rules.specs.declared.code.Code.{Code}
 use Rattle.c2_rules.specs.declared.code.Code.TheVariants.{ProfileRedactionTarget, ProfileIngredientSignature}
-use Rattle.c2_parent_spec.specs.Refusing.{new_claim_uri}
-use Rattle.c2_parent_spec.specs.declared.refused.RefusedRedaction.{RefusedRedaction}
+use Rattle.c2_new_file_spec.specs.Refusing.{new_claim_uri}
+use Rattle.c2_new_file_spec.specs.declared.refused.RefusedRedaction.{RefusedRedaction}
 use Rattle.c2_collect_spec.specs.Collected.{JoinedReaches, collected_readings}
 use Rattle.c2_collect_spec.specs.Refusals.{entry_tests_by, redaction_refusal_by, refusal_after_by}
 use Rattle.c2_parent.specs.Named.{AreNamed}

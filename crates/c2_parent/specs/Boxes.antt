@@ -4,8 +4,8 @@ use Rattle.c2_spec.specs.Jumbf.Tree.{Tree, Trees, leaf, super, none, more, descr
 use Rattle.c2_spec.specs.Jumbf.Boxes.{AnyBox, IndexedBox, node, described, trees_count, boxes_from_all, boxes_of, any_label}
 use Rattle.c2_spec.specs.C2pa.Manifest.{is_named}
 use Rattle.c2_rules.specs.Chains.{passes_some}
-use Rattle.c2_new_store_spec.specs.Manifests.{is_assertion_store}
-use Rattle.c2_parent_spec.specs.Redacting.{takes_out, without, thin_boxes, boxes_in}
+use Rattle.c2_new_file_spec.specs.Manifests.{is_assertion_store}
+use Rattle.c2_new_file_spec.specs.Redacting.{takes_out, without, thin_boxes, boxes_in}
 
 -- the boxes of a box behind its description
 abbrev pub any_boxes : AnyBox → Trees
@@ -50,7 +50,7 @@ lost out none = 0
 lost out (more t ts) =
     (if passes_some out (any_label (node t)) then length (tree_bytes t) else 0) + lost out ts
 
--- those of the first assertion store among these
+-- how many bytes those boxes of the first assertion store among these have whose labels are taken out
 abbrev pub lost_in_store : (List ℕ → Bool) → Trees → ℕ
 lost_in_store out none = 0
 lost_in_store out (more t ts) =

@@ -11,8 +11,8 @@ use Rattle.c2_rules.specs.Tests.{Test, first_failing, test}
 use Rattle.c2_rules.specs.declared.answer.Failing.{Failing}
 use Rattle.c2_rules.specs.declared.code.Code.{Code}
 use Rattle.c2_rules.specs.declared.code.Code.TheVariants.{ProfileRedactionTarget, ProfileIngredientSignature}
-use Rattle.c2_chain_older_spec.specs.Older.{has_signature}
-use Rattle.c2_parent_spec.specs.Refusing.{any_reached, has_assertion, is_target, names_unsigned, new_claim_uri, redaction_refusal, refusal_after}
+use Rattle.c2_chain_spec.specs.Older.{has_signature}
+use Rattle.c2_new_file_spec.specs.Refusing.{any_reached, has_assertion, is_target, names_unsigned, new_claim_uri, redaction_refusal, refusal_after}
 use Rattle.c2_parent.specs.Named.{AreNamed}
 use Rattle.c2_parent.specs.declared.named.Named.{Named}
 

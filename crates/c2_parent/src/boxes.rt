@@ -3,7 +3,7 @@ ghost use Rattle.std.specs.Prelude.{◌≡◌, ◌++◌, ◌<◌, ◌≤◌, OnO
 ghost use Rattle.c2_spec.specs.Jumbf.Tree.{head_bytes, trees_bytes};
 ghost use Rattle.c2_spec.specs.Jumbf.Boxes.{tree_count, box_at, index_after, any_bytes, any_contents, any_kind, any_wide};
 ghost use Rattle.c2_parent.specs.Boxes.{AreFrom, any_boxes, front_bytes};
-ghost use Rattle.c2_parent_spec.specs.Redacting.{boxes_in};
+ghost use Rattle.c2_new_file_spec.specs.Redacting.{boxes_in};
 
 use c2_base::NoMemory;
 use c2_jumbf::{Tree, after, contents, count, kind, total, uuid_of};

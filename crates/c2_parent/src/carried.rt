@@ -2,7 +2,7 @@
 ghost use Rattle.std.specs.Prelude.{◌≡◌, ◌++◌, ◌<◌, IfOk, OnOk, length};
 ghost use Rattle.c2_spec.specs.Jumbf.Boxes.{tree_count, box_at, any_bytes, any_contents, node};
 ghost use Rattle.c2_spec.specs.Jumbf.Tree.{Tree as AnyTree, tree_bytes, trees_bytes};
-ghost use Rattle.c2_parent_spec.specs.Redacting.{boxes_in, redacted_box, redacted_boxes};
+ghost use Rattle.c2_new_file_spec.specs.Redacting.{boxes_in, redacted_box, redacted_boxes};
 ghost use Rattle.c2_parent.specs.Boxes.{redacted_any};
 ghost use Rattle.c2_parent.specs.Named.{AreNamed};
 

@@ -1,7 +1,7 @@
 //! What a new manifest needs of an older store: which of its redactions is refused first, the boxes that are carried, and the
 //! parent.
 //!
-//! What they are stands in `c2_parent_spec`.
+//! What they are stands in `c2_new_file_spec`.
 #![tactic(auto)]
 
 mod both;

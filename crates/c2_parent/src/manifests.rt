@@ -6,7 +6,7 @@ ghost use Rattle.c2_spec.specs.Jumbf.Boxes.{tree_count, box_at, any_bytes, any_c
 ghost use Rattle.c2_rules.specs.Chains.{passes_some};
 ghost use Rattle.c2_parent.specs.Boxes.{any_boxes, changed, child_of, is_any_store, lost, lost_in_store, name_in};
 ghost use Rattle.c2_parent.specs.Named.{is_among};
-ghost use Rattle.c2_parent_spec.specs.Redacting.{without, thin_boxes};
+ghost use Rattle.c2_new_file_spec.specs.Redacting.{without, thin_boxes};
 
 use crate::boxes::{append_box, append_front, append_head, first_box};
 use crate::named::{Named, has_named};

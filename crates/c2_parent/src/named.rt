@@ -15,7 +15,7 @@ pub struct Named<'u> {
     pub pairs: BTreeSet<(&'u str, &'u str)>,
 }
 
-/// None.
+/// No names.
 pub fn no_names<'u>(alloc: Global) -> Named<'u>
     ensures { (manifest label : List ℕ) → is_among result manifest label ≡ false }
 {

@@ -3,8 +3,8 @@ ghost use Rattle.std.specs.Prelude.{◌≡◌, ◌<◌, ◌-◌, [], IfOk, IfSom
 ghost use Rattle.std.specs.Option.{option_map_or};
 ghost use Rattle.c2_spec.specs.C2pa.Manifest.{IsStoreOf};
 ghost use Rattle.c2_spec.specs.Jumbf.Boxes.{tree_count, box_at, any_contents};
-ghost use Rattle.c2_new_store_spec.specs.Manifests.{supers_in};
-ghost use Rattle.c2_parent_spec.specs.Redacting.{boxes_in, redacted_boxes};
+ghost use Rattle.c2_new_file_spec.specs.Manifests.{supers_in};
+ghost use Rattle.c2_new_file_spec.specs.Redacting.{boxes_in, redacted_boxes};
 ghost use Rattle.c2_parent.specs.Boxes.{redacted_any};
 ghost use Rattle.c2_parent.specs.Parents.{HasParent};
 

@@ -3,8 +3,8 @@ ghost use Rattle.std.specs.Prelude.{◌≡◌, ℕ, List, [], IfOk, Some, length
 ghost use Rattle.c2_spec.specs.C2pa.Uri.{target_view};
 ghost use Rattle.c2_rules.specs.Chains.{LabelsDiffer};
 ghost use Rattle.c2_rules.specs.Rules.{names_own, redacted_tests};
-ghost use Rattle.c2_parent_spec.specs.Refusing as form;
-ghost use Rattle.c2_parent_spec.specs.Refusing.{entry_tests, redaction_refusal};
+ghost use Rattle.c2_new_file_spec.specs.Refusing as form;
+ghost use Rattle.c2_new_file_spec.specs.Refusing.{entry_tests, redaction_refusal};
 ghost use Rattle.c2_parent.specs.Named.{AreNamed};
 ghost use Rattle.c2_parent.specs.Refused.{IsKnown, any_so, assertion_of, code_of, later_code, still_there, uri_entry_tests};
 
@@ -15,7 +15,7 @@ use c2_assertion::Kind;
 use c2_base::{NoMemory, Text};
 use c2_chain::{Chain, Labelled, label_kind, readings};
 use c2_label_index::{Labels, has_label};
-use c2_parent_spec::RefusedRedaction;
+use c2_new_file_spec::RefusedRedaction;
 use c2_read_manifests::{ReadManifests, manifests, place_of};
 use c2_rules::Code;
 use c2_uri::{Target, parse};

@@ -2,20 +2,20 @@
 ghost use Rattle.std.specs.Prelude.{◌≡◌, ℕ, List, IfOk, find, is_some};
 ghost use Rattle.c2_rules.specs.Chains.{LabelsDiffer, label_in};
 ghost use Rattle.c2_rules.specs.Rules.{is_labelled};
-ghost use Rattle.c2_parent_spec.specs.Refusing.{has_assertion, kept_boxes};
+ghost use Rattle.c2_new_file_spec.specs.Refusing.{has_assertion, kept_boxes};
 ghost use Rattle.c2_parent.specs.Named.{AreNamed};
 ghost use Rattle.c2_parent.specs.Refused.{still_there};
 
 use crate::named::{Named, has_named};
 use c2_base::NoMemory;
 use c2_chain::{Labelled, find_box, is_listed, with_labels};
-use c2_read_manifests::{Kept, ReadManifests, is_reached, place_of};
+use c2_read_manifests::{ReadManifest, ReadManifests, is_reached, place_of};
 use std::alloc::Global;
 
 /// Manifests, each with its boxes and entries by their labels.
 pub fn targets_of<'c, 't>(
     alloc: Global,
-    kept: &'c [Kept<'t>],
+    kept: &'c [ReadManifest<'t>],
 ) -> Result<Vec<Labelled<'c, 't>>, NoMemory>
     ensures { IfOk result (λ v. v.items ≡ kept.now) }
 {

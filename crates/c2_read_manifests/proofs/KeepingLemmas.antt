@@ -3,11 +3,10 @@ use Rattle.std.proofs.Common.{◌≡◌, ℕ, ◌+◌, ◌<◌, ◌≤◌, Bool,
 use Rattle.std.specs.List.{AllZip}
 use Rattle.c2_spec.specs.C2pa.Claim.{claim_of}
 use Rattle.c2_spec.specs.Jumbf.Tree.{Tree}
-use Rattle.c2_spec.specs.Jumbf.Boxes.{tree_count, box_at, any_label, any_contents}
+use Rattle.c2_spec.specs.Jumbf.Boxes.{box_at, any_label, any_contents}
 use Rattle.c2_spec.specs.C2pa.Manifest.{Manifest, Superbox, IsStoreOf, superbox_at, claim_bytes, claim_version_of, manifest_at, manifests_of}
 use Rattle.c2_spec.specs.declared.store.ManifestBoxes.{ManifestBoxes}
 use Rattle.std.proofs.lemmas.Option.{slice_get-get_or}
-use Rattle.c2_spec.proofs.BoxesOfManifests.{signature_inside}
 use Rattle.c2_read_manifests.proofs.ParsingLemmas.{zip_more, zip_all}
 use Rattle.c2_spec.specs.C2pa.Sign1.{SignParts}
 use Rattle.c2_spec.specs.declared.claim.Claim.{Claim}
@@ -23,7 +22,9 @@ same_boxes (b ∷ bs) (r ∷ rs) h = ap₂ (λ (x : Superbox) (xs : List Superbo
 
 -- a manifest of these parts, written short
 abbrev made : Option (List ℕ) → List ℕ → Bool → List Superbox → Option Superbox → List Superbox → Manifest
-made label contents is_update claims signature assertions = record { label = label; contents = contents; is_update = is_update; claims = claims; signature = signature; assertions = assertions }
+made label contents is_update claims signature assertions =
+    record
+    { label = label; contents = contents; is_update = is_update; claims = claims; signature = signature; assertions = assertions }
 
 -- what is kept of a manifest's label, contents, boxes, claim and message is a reading of the manifest that has these boxes
 pub kept_is : (t : Tree) (m : ManifestBoxes) (label : Option (List ℕ)) (contents : List ℕ) (cs : List Superbox)
@@ -46,11 +47,16 @@ kept_is t m label contents cs sign claim message bs named held listed signed rea
     record {
       same =
           ap₂ (λ (x : Option (List ℕ)) (y : List ℕ). made x y m.is_update cs sign boxes) named held
-          ∙ ap₂ (λ (x : List Superbox) (y : Option Superbox). made own_label own_contents m.is_update x y boxes) listed signed
-          ∙ ap (made own_label own_contents m.is_update (map (superbox_at t) m.claims) (option_map (superbox_at t) m.signature))
+          ∙ ap₂ (λ (x : List Superbox) (y : Option Superbox). made own_label own_contents m.is_update x y boxes) listed
+          signed
+          ∙ ap
+          (made own_label own_contents m.is_update (map (superbox_at t) m.claims) (option_map (superbox_at t) m.signature))
           (same_boxes (map (superbox_at t) m.assertions) bs read);
-      claim = subst (λ (x : List Superbox). IsParsed (claim_of (claim_version_of x)) (claim_bytes x) claim) listed parsed;
-      message = subst (λ (x : Option Superbox). IsMessageOf (option_and_then (λ (b : Superbox). b.item) x) message) signed asked;
+      claim =
+          subst (λ (x : List Superbox). IsParsed (claim_of (claim_version_of x)) (claim_bytes x) claim) listed parsed;
+      message =
+          subst (λ (x : Option Superbox). IsMessageOf (option_and_then (λ (b : Superbox). b.item) x) message) signed
+          asked;
       boxes = read;
     }
 
@@ -66,16 +72,17 @@ pub kept_there : (t : Tree) (o : Option ManifestBoxes) (m : ManifestBoxes) (r : 
 kept_there t o m r at h = subst (λ (p : Option ManifestBoxes). IfSome p (λ n. IsReading (manifest_at t n) r)) at h
 
 -- readings of a store's first `k` manifests and a reading of the next are readings of the first `k + 1`
-pub kept_more : (t : Tree) (s : List ManifestBoxes) (k : ℕ) (old new : List Reading) (r : Reading) → k < length s → AllZip IsReading (map (manifest_at t) (take k s)) old → new ≡ old ++ r ∷ []
-    → IfSome (slice_get s k) (λ m. IsReading (manifest_at t m) r) → AllZip IsReading (map (manifest_at t) (take (k + 1) s)) new
+pub kept_more : (t : Tree) (s : List ManifestBoxes) (k : ℕ) (old new : List Reading) (r : Reading) → k < length s
+    → AllZip IsReading (map (manifest_at t) (take k s)) old → new ≡ old ++ r ∷ []
+    → IfSome (slice_get s k) (λ m. IsReading (manifest_at t m) r)
+    → AllZip IsReading (map (manifest_at t) (take (k + 1) s)) new
 kept_more t s k old new r lt so_far is one =
-    zip_more IsReading (manifest_at t) s k no_boxes old new r lt so_far is (subst (λ (o : Option ManifestBoxes). IfSome o (λ m. IsReading (manifest_at t m) r)) (slice_get-get_or s k no_boxes lt) one)
+    zip_more IsReading (manifest_at t) s k no_boxes old new r lt so_far is
+    (subst (λ (o : Option ManifestBoxes). IfSome o (λ m. IsReading (manifest_at t m) r)) (slice_get-get_or s k no_boxes lt) one)
 
 -- readings of as many manifests as a store has, or more, are readings of all its manifests
-pub kept_all : (t : Tree) (s : List ManifestBoxes) (k : ℕ) (old : List Reading) → IsStoreOf t s → length s ≤ k → AllZip IsReading (map (manifest_at t) (take k s)) old → AreReadings (manifests_of t) old
-kept_all t s k old store le so_far = subst (λ (x : List ManifestBoxes). AllZip IsReading (map (manifest_at t) x) old) store.same (zip_all IsReading (manifest_at t) s k old le so_far)
-
--- where a manifest of a store has a signature box, its index is one of a box of the tree
-pub some_inside : (t : Tree) (s : List ManifestBoxes) (i : ℕ) (o : Option ℕ) → IsStoreOf t s → Some o ≡ option_map (λ (m : ManifestBoxes). m.signature) (slice_get s i) → IfSome o (λ k. k < tree_count t)
-some_inside t s i None store at = tt
-some_inside t s i (Some j) store at = signature_inside t s i j store at
+pub kept_all : (t : Tree) (s : List ManifestBoxes) (k : ℕ) (old : List Reading) → IsStoreOf t s → length s ≤ k
+    → AllZip IsReading (map (manifest_at t) (take k s)) old → AreReadings (manifests_of t) old
+kept_all t s k old store le so_far =
+    subst (λ (x : List ManifestBoxes). AllZip IsReading (map (manifest_at t) x) old) store.same
+    (zip_all IsReading (manifest_at t) s k old le so_far)

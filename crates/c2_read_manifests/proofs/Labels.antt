@@ -1,6 +1,6 @@
 -- The manifests of a store have different labels.
-use Rattle.std.proofs.Common.{◌≡◌, ◌≢◌, ℕ, zero, suc, ◌<◌, Bool, true, false, cond, List, [], ◌∷◌, length, get_or, map, filter, Option, Some, None, unwrap_or, slice_get, refl, sym, ap, ◌∙◌, subst, arith}
-use Rattle.std.specs.List.{AllByRecursion, AllZip}
+use Rattle.std.proofs.Common.{◌≡◌, ℕ, zero, suc, ◌<◌, Bool, true, false, cond, List, [], ◌∷◌, length, get_or, map, filter, Option, Some, None, unwrap_or, slice_get, refl, sym, ap, ◌∙◌, arith}
+use Rattle.std.specs.List.{AllByRecursion}
 use Rattle.std.specs.Option.{option_map}
 use Rattle.std.proofs.lemmas.Option.{same_Some, slice_get-map, slice_get_within, get_or_from_slice_get}
 use Rattle.c2_spec.specs.Jumbf.Tree.{Tree, IsLegalTree, IsNewLabel, AreDistinctLabels}
@@ -12,63 +12,55 @@ use Rattle.c2_rules.specs.Readings.{Reading, IsReading, AreReadings}
 use Rattle.c2_spec.proofs.JumbfBoxes.{some_box}
 use Rattle.c2_spec.proofs.JumbfChildren.{distinct_children}
 use Rattle.c2_spec.proofs.LabelsOfManifests.{labelled}
+use Rattle.c2_lemmas.proofs.Each.{not_among, partner_at}
+use Rattle.c2_spec.proofs.Openings.{new_filtered}
 
 -- ---- lists of different labels
 
--- if no member of a list is this label, no place in it holds the label
-not_among : (label : List ℕ) (os : List (Option (List ℕ))) (n : ℕ) → AllByRecursion (λ o. o ≢ Some label) os → n < length os → get_or os n None ≡ Some label → ⊥
-not_among label [] n h l e = omega (arith, l)
-not_among label (o ∷ os) zero h l e = h.0 e
-not_among label (o ∷ os) (suc n) h l e = not_among label os n h.1 (omega arith) e
-
 -- a label that is new to a list stands at none of its places
-new_among : (label : List ℕ) (o : Option (List ℕ)) (os : List (Option (List ℕ))) (n : ℕ) → IsNewLabel o os → o ≡ Some label → n < length os → get_or os n None ≡ Some label → ⊥
+new_among : (label : List ℕ) (o : Option (List ℕ)) (os : List (Option (List ℕ))) (n : ℕ) → IsNewLabel o os
+    → o ≡ Some label → n < length os → get_or os n None ≡ Some label → ⊥
 new_among label None os n h e l k = cc (e)
 new_among label (Some t) os n h e l k = not_among t os n h l (k ∙ sym e)
 
 -- in a list of different labels, two places that hold the same label are one
-distinct_at : (label : List ℕ) (os : List (Option (List ℕ))) (m n : ℕ) → AreDistinctLabels os → m < length os → n < length os → get_or os m None ≡ Some label → get_or os n None ≡ Some label → m ≡ n
+distinct_at : (label : List ℕ) (os : List (Option (List ℕ))) (m n : ℕ) → AreDistinctLabels os → m < length os
+    → n < length os → get_or os m None ≡ Some label → get_or os n None ≡ Some label → m ≡ n
 distinct_at label [] m n h l k d e = absurd (omega (arith, l))
 distinct_at label (o ∷ os) zero zero h l k d e = refl
 distinct_at label (o ∷ os) zero (suc n) h l k d e = absurd (new_among label o os n h.0 d (omega arith) e)
 distinct_at label (o ∷ os) (suc m) zero h l k d e = absurd (new_among label o os m h.0 e (omega arith) d)
-distinct_at label (o ∷ os) (suc m) (suc n) h l k d e = ap suc (distinct_at label os m n h.1 (omega arith) (omega arith) d e)
+distinct_at label (o ∷ os) (suc m) (suc n) h l k d e =
+    ap suc (distinct_at label os m n h.1 (omega arith) (omega arith) d e)
 
 -- some of them are different still
-kept_all : (f : ℕ → Option (List ℕ)) (p : ℕ → Bool) (P : Option (List ℕ) → Type 0) (xs : List ℕ) → AllByRecursion P (map f xs) → AllByRecursion P (map f (filter p xs))
+kept_all : (f : ℕ → Option (List ℕ)) (p : ℕ → Bool) (P : Option (List ℕ) → Type 0) (xs : List ℕ)
+    → AllByRecursion P (map f xs) → AllByRecursion P (map f (filter p xs))
 kept_all f p P [] h = tt
 kept_all f p P (x ∷ xs) h = by (p x) (kept_all f p P xs h.1)
   where
-    by : (b : Bool) → AllByRecursion P (map f (filter p xs)) → AllByRecursion P (map f (cond b (x ∷ filter p xs) (filter p xs)))
+    by : (b : Bool) → AllByRecursion P (map f (filter p xs))
+        → AllByRecursion P (map f (cond b (x ∷ filter p xs) (filter p xs)))
     by true rest = (h.0, rest)
     by false rest = rest
 
--- a label that is new to the labels of some boxes is new to the labels of a part of them
-kept_new : (f : ℕ → Option (List ℕ)) (p : ℕ → Bool) (o : Option (List ℕ)) (xs : List ℕ) → IsNewLabel o (map f xs) → IsNewLabel o (map f (filter p xs))
-kept_new f p None xs h = tt
-kept_new f p (Some label) xs h = kept_all f p (λ o. o ≢ Some label) xs h
-
 -- if boxes have different labels, those that a test picks of them do too
-kept_distinct : (f : ℕ → Option (List ℕ)) (p : ℕ → Bool) (xs : List ℕ) → AreDistinctLabels (map f xs) → AreDistinctLabels (map f (filter p xs))
+kept_distinct : (f : ℕ → Option (List ℕ)) (p : ℕ → Bool) (xs : List ℕ) → AreDistinctLabels (map f xs)
+    → AreDistinctLabels (map f (filter p xs))
 kept_distinct f p [] h = tt
-kept_distinct f p (x ∷ xs) h = by (p x) (kept_new f p (f x) xs h.0) (kept_distinct f p xs h.1)
+kept_distinct f p (x ∷ xs) h = by (p x) (new_filtered f p (f x) xs h.0) (kept_distinct f p xs h.1)
   where
-    by : (b : Bool) → IsNewLabel (f x) (map f (filter p xs)) → AreDistinctLabels (map f (filter p xs)) → AreDistinctLabels (map f (cond b (x ∷ filter p xs) (filter p xs)))
+    by : (b : Bool) → IsNewLabel (f x) (map f (filter p xs)) → AreDistinctLabels (map f (filter p xs))
+        → AreDistinctLabels (map f (cond b (x ∷ filter p xs) (filter p xs)))
     by true new rest = (new, rest)
     by false new rest = rest
 
 -- ---- the manifest at a place
 
--- where two lists correspond, a member of the second has a partner at the same place of the first
-zip_at : {A B : Type 0} (R : A → B → Type 0) (xs : List A) (ys : List B) (i : ℕ) (y : B) → AllZip R xs ys → slice_get ys i ≡ Some y → (x : A) × (slice_get xs i ≡ Some x) × R x y
-zip_at R [] [] i y h e = absurd cc
-zip_at R [] (z ∷ ys) i y h e = absurd h
-zip_at R (x ∷ xs) [] i y h e = absurd cc
-zip_at {A} {B} R (x ∷ xs) (z ∷ ys) zero y h e = (x, refl, subst (λ (b : B). R x b) (same_Some z y e) h.0)
-zip_at R (x ∷ xs) (z ∷ ys) (suc i) y h e = zip_at R xs ys i y h.1 e
-
 -- a manifest at a place comes from the superbox that stands at that place
-boxes_at : (t : Tree) (xs : List ℕ) (i : ℕ) (m : Manifest) → slice_get (map (manifest_at t) (map (manifest_boxes t) xs)) i ≡ Some m → (w : ℕ) × (slice_get xs i ≡ Some w) × (m ≡ manifest_at t (manifest_boxes t w))
+boxes_at : (t : Tree) (xs : List ℕ) (i : ℕ) (m : Manifest)
+    → slice_get (map (manifest_at t) (map (manifest_boxes t) xs)) i ≡ Some m
+    → (w : ℕ) × (slice_get xs i ≡ Some w) × (m ≡ manifest_at t (manifest_boxes t w))
 boxes_at t [] i m e = absurd cc
 boxes_at t (x ∷ xs) zero m e = (x, refl, sym (same_Some (manifest_at t (manifest_boxes t x)) m e))
 boxes_at t (x ∷ xs) (suc i) m e = boxes_at t xs i m e
@@ -87,24 +79,37 @@ record Placed (t : Tree) (i : ℕ) (r : Reading) : Type 0 where
   pub is_label : label_in r ≡ label
 
 -- in a store that isn't refused, the manifest that was read at a place has a box there, which has its label
-placed : (t : Tree) (rs : List Reading) (i : ℕ) (r : Reading) → store_refusal t ≡ None → AreReadings (manifests_of t) rs → slice_get rs i ≡ Some r → Placed t i r
+placed : (t : Tree) (rs : List Reading) (i : ℕ) (r : Reading) → store_refusal t ≡ None → AreReadings (manifests_of t) rs
+    → slice_get rs i ≡ Some r → Placed t i r
 placed t rs i r accepted read at =
-    let own = zip_at IsReading (manifests_of t) rs i r read at in
+    let own = partner_at IsReading (manifests_of t) rs i r read at in
     let there = boxes_at t (superboxes t 0) i own.0 own.1 in
-    let stored : slice_get (store_of t) i ≡ Some (manifest_boxes t there.0) = slice_get-map (manifest_boxes t) (superboxes t 0) i ∙ ap (option_map (manifest_boxes t)) there.1 in
-    let some = some_label (any_label (box_at t there.0).box) (λ none. labelled t (store_of t) i there.0 (record { accepted = accepted; same = refl }) (sym (ap (option_map (λ (m : ManifestBoxes). m.whole)) stored)) none) in
-    let same : label_in r ≡ some.0 = ap (λ (m : Manifest). unwrap_or m.label []) (own.2.same ∙ there.2) ∙ ap (λ (o : Option (List ℕ)). unwrap_or o []) some.1 in
+    let stored : slice_get (store_of t) i ≡ Some (manifest_boxes t there.0) =
+    slice_get-map (manifest_boxes t) (superboxes t 0) i ∙ ap (option_map (manifest_boxes t)) there.1 in
+    let some =
+    some_label (any_label (box_at t there.0).box)
+    (λ none. labelled t (store_of t) i there.0 (record { accepted = accepted; same = refl }) (sym (ap (option_map (λ (m : ManifestBoxes). m.whole)) stored)) none) in
+    let same : label_in r ≡ some.0 =
+    ap (λ (m : Manifest). unwrap_or m.label []) (own.2.same ∙ there.2)
+    ∙ ap (λ (o : Option (List ℕ)). unwrap_or o []) some.1 in
     record { box = there.0; at_place = there.1; label = some.0; has_label = some.1; is_label = same }
 
 -- readings of the manifests of a legal tree that isn't refused as a store have different labels
-pub labels_differ : (t : Tree) (rs : List Reading) → IsLegalTree 1 t → store_refusal t ≡ None → AreReadings (manifests_of t) rs → LabelsDiffer rs
+pub labels_differ : (t : Tree) (rs : List Reading) → IsLegalTree 1 t → store_refusal t ≡ None
+    → AreReadings (manifests_of t) rs → LabelsDiffer rs
 labels_differ t rs legal accepted read i j r s at_i at_j same =
     let a = placed t rs i r accepted read at_i in
     let b = placed t rs j s accepted read at_j in
     let f : ℕ → Option (List ℕ) = λ (k : ℕ). any_label (box_at t k).box in
-    let distinct : AreDistinctLabels (map f (superboxes t 0)) = kept_distinct f (is_superbox t) (child_indices t 0) (distinct_children t 0 (some_box t) legal) in
-    let first : slice_get (map f (superboxes t 0)) i ≡ Some (Some a.label) = slice_get-map f (superboxes t 0) i ∙ ap (option_map f) a.at_place ∙ ap Some a.has_label in
-    let second : slice_get (map f (superboxes t 0)) j ≡ Some (Some b.label) = slice_get-map f (superboxes t 0) j ∙ ap (option_map f) b.at_place ∙ ap Some b.has_label in
+    let distinct : AreDistinctLabels (map f (superboxes t 0)) =
+    kept_distinct f (is_superbox t) (child_indices t 0) (distinct_children t 0 (some_box t) legal) in
+    let first : slice_get (map f (superboxes t 0)) i ≡ Some (Some a.label) =
+    slice_get-map f (superboxes t 0) i ∙ ap (option_map f) a.at_place ∙ ap Some a.has_label in
+    let second : slice_get (map f (superboxes t 0)) j ≡ Some (Some b.label) =
+    slice_get-map f (superboxes t 0) j ∙ ap (option_map f) b.at_place ∙ ap Some b.has_label in
     let one : b.label ≡ a.label = sym b.is_label ∙ sym same ∙ a.is_label in
-    distinct_at a.label (map f (superboxes t 0)) i j distinct (slice_get_within (map f (superboxes t 0)) i (Some a.label) first) (slice_get_within (map f (superboxes t 0)) j (Some b.label) second)
-    (get_or_from_slice_get (map f (superboxes t 0)) i (Some a.label) None first) (get_or_from_slice_get (map f (superboxes t 0)) j (Some b.label) None second ∙ ap Some one)
+    distinct_at a.label (map f (superboxes t 0)) i j distinct
+    (slice_get_within (map f (superboxes t 0)) i (Some a.label) first)
+    (slice_get_within (map f (superboxes t 0)) j (Some b.label) second)
+    (get_or_from_slice_get (map f (superboxes t 0)) i (Some a.label) None first)
+    (get_or_from_slice_get (map f (superboxes t 0)) j (Some b.label) None second ∙ ap Some one)

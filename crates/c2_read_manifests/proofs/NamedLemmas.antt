@@ -1,5 +1,5 @@
 -- The places of manifests by their labels.
-use Rattle.std.proofs.Common.{◌≡◌, ℕ, ◌+◌, ◌<◌, Bool, cond, List, [], ◌∷◌, length, map, take, Option, Some, position, refl, sym, ap, ◌∙◌, arith}
+use Rattle.std.proofs.Common.{◌≡◌, ℕ, ◌<◌, Bool, List, length, map, take, Option, Some, position, sym, ap, ◌∙◌, arith}
 use Rattle.std.specs.List.{position_from}
 use Rattle.std.proofs.lemmas.Iterator.Adapters.{position_from-zero}
 use Rattle.std.proofs.lemmas.List.{length-take-le, length-map}
@@ -10,19 +10,17 @@ use Rattle.c2_label_index.specs.declared.places.Places.{Places}
 use Rattle.c2_rules.specs.Chains.{label_in}
 use Rattle.c2_rules.specs.Readings.{Reading}
 use Rattle.c2_read_manifests.specs.Named.{FindsPlaces}
+use Rattle.c2_lemmas.proofs.Lists.{position_from_map}
 
 -- the labels of manifests, each of which has one
 abbrev pub labels_of : List Reading → List (Option (List ℕ))
 labels_of rs = map (λ (r : Reading). Some (label_in r)) rs
 
--- the first place is the same in a list and in what it is mapped to
-from_map : {X Y : Type 0} (f : X → Y) (p : Y → Bool) (i : ℕ) (xs : List X) → position_from p i (map f xs) ≡ position_from (λ x. p (f x)) i xs
-from_map f p i [] = refl
-from_map f p i (x ∷ xs) = ap (λ (o : Option ℕ). cond (p (f x)) (Some i) o) (from_map f p (i + 1) xs)
-
 -- the first place whose image passes a test is the first place in the mapped list that passes it
-position_map : {X Y : Type 0} (f : X → Y) (p : Y → Bool) (xs : List X) → position p (map f xs) ≡ position (λ x. p (f x)) xs
-position_map f p xs = position_from-zero p (map f xs) ∙ from_map f p 0 xs ∙ sym (position_from-zero (λ x. p (f x)) xs)
+position_map : {X Y : Type 0} (f : X → Y) (p : Y → Bool) (xs : List X)
+    → position p (map f xs) ≡ position (λ x. p (f x)) xs
+position_map f p xs =
+    position_from-zero p (map f xs) ∙ position_from_map f p 0 xs ∙ sym (position_from-zero (λ x. p (f x)) xs)
 
 -- so many labels were added
 pub so_many : (rs : List Reading) (i : ℕ) → i < length rs → i ≡ length (labels_of (take i rs))
@@ -30,4 +28,6 @@ so_many rs i lt = sym (length-map (take i rs) (λ (r : Reading). Some (label_in 
 
 -- all of them
 pub all_placed : (rs : List Reading) (p : Places) → ArePlaces (labels_of (take (length rs) rs)) p → FindsPlaces rs p
-all_placed rs p h label = h label ∙ ap (λ (xs : List Reading). position (λ o. is_given o label) (labels_of xs)) (take-length rs) ∙ position_map (λ (r : Reading). Some (label_in r)) (λ o. is_given o label) rs
+all_placed rs p h label =
+    h label ∙ ap (λ (xs : List Reading). position (λ o. is_given o label) (labels_of xs)) (take-length rs)
+    ∙ position_map (λ (r : Reading). Some (label_in r)) (λ o. is_given o label) rs

@@ -12,14 +12,18 @@ use Rattle.c2_read_manifests.specs.Rows.{bit, row_bits, AreRowsBelow}
 -- two tests that agree on every member of a list agree on whether one of them passes
 any_same : (f g : ℕ → Bool) (xs : List ℕ) → ((x : ℕ) → Contains xs x → f x ≡ g x) → list_any f xs ≡ list_any g xs
 any_same f g [] same = refl
-any_same f g (x ∷ xs) same = ap₂ (λ (a b : Bool). a || b) (same x (contains_head x xs)) (any_same f g xs (λ y c. same y (contains_tail x y xs c)))
+any_same f g (x ∷ xs) same =
+    ap₂ (λ (a b : Bool). a || b) (same x (contains_head x xs))
+    (any_same f g xs (λ y c. same y (contains_tail x y xs c)))
 
 -- the children of a manifest stand before it
 child_earlier : (rs : List Reading) (n c : ℕ) → Contains (children rs n) c → c < n
 child_earlier rs n c there = (child_is rs n c there).earlier
 
 -- more steps than the place has reach no more
-same_below : (rs : List Reading) (s t c n m : ℕ) → c < n → ((d : ℕ) → d < n → reaches_within rs s d m ≡ reaches_within rs t d m) → (nat_eq c m || reaches_within rs s c m) ≡ (nat_eq c m || reaches_within rs t c m)
+same_below : (rs : List Reading) (s t c n m : ℕ) → c < n
+    → ((d : ℕ) → d < n → reaches_within rs s d m ≡ reaches_within rs t d m)
+    → (nat_eq c m || reaches_within rs s c m) ≡ (nat_eq c m || reaches_within rs t c m)
 same_below rs s t c n m lt same = ap (λ (b : Bool). nat_eq c m || b) (same c lt)
 
 -- what a manifest reaches within more steps than its place is the same for every such number of steps
@@ -31,10 +35,12 @@ enough rs (suc s) (suc t) n m few many =
     (λ c there. same_below rs s t c n m (child_earlier rs n c there) (λ d lt. enough rs s t d m (omega arith) (omega arith)))
 
 -- the rows before say what is reached from children
-row_says : (rs : List Reading) (k m : ℕ) (rows : List (List Bool)) → AreRowsBelow rs k rows → m < length rs → list_any (λ c. nat_eq c m || bit rows c m) (children rs k) ≡ reaches rs k m
+row_says : (rs : List Reading) (k m : ℕ) (rows : List (List Bool)) → AreRowsBelow rs k rows → m < length rs
+    → list_any (λ c. nat_eq c m || bit rows c m) (children rs k) ≡ reaches rs k m
 row_says rs k m rows h inside =
     let steps : suc k ≡ k + 1 = omega arith in
-    any_same (λ c. nat_eq c m || bit rows c m) (λ c. nat_eq c m || reaches_within rs k c m) (children rs k) (λ c there. same c (child_earlier rs k c there))
+    any_same (λ c. nat_eq c m || bit rows c m) (λ c. nat_eq c m || reaches_within rs k c m) (children rs k)
+    (λ c there. same c (child_earlier rs k c there))
     ∙ ap (λ (n : ℕ). reaches_within rs n k m) steps
   where
     same : (c : ℕ) → c < k → (nat_eq c m || bit rows c m) ≡ (nat_eq c m || reaches_within rs k c m)
@@ -43,7 +49,8 @@ row_says rs k m rows h inside =
 -- ---- lists by their places
 
 -- the bit at place `m` of bits made for places from `start` on is the one made for `start + m`
-mapped : (f : ℕ → Bool) (start n m : ℕ) → m < n → slice_index_or (map f (range_with_len start n)) m false ≡ f (start + m)
+mapped : (f : ℕ → Bool) (start n m : ℕ) → m < n
+    → slice_index_or (map f (range_with_len start n)) m false ≡ f (start + m)
 mapped f start zero m lt = absurd (omega arith)
 mapped f start (suc n) zero lt = let e : start ≡ start + 0 = omega arith in ap f e
 mapped f start (suc n) (suc m) lt =
@@ -51,7 +58,8 @@ mapped f start (suc n) (suc m) lt =
     mapped f (start + 1) n m (omega arith) ∙ ap f e
 
 -- a row added at the end leaves the rows before it as they were
-pushed_before : (rows : List (List Bool)) (row : List Bool) (n : ℕ) → n < length rows → slice_index_or (rows ++ row ∷ []) n [] ≡ slice_index_or rows n []
+pushed_before : (rows : List (List Bool)) (row : List Bool) (n : ℕ) → n < length rows
+    → slice_index_or (rows ++ row ∷ []) n [] ≡ slice_index_or rows n []
 pushed_before [] row n lt = absurd (omega arith)
 pushed_before (x ∷ xs) row zero lt = refl
 pushed_before (x ∷ xs) row (suc n) lt = pushed_before xs row n (omega arith)
@@ -85,14 +93,18 @@ earlier_or_last (suc n) zero lt = absurd (omega arith)
 earlier_or_last (suc n) (suc k) lt = one_up n k (earlier_or_last n k (omega arith))
 
 -- rows of what the first `k` manifests reach, and the next one's row made from them, are those of the first `k + 1`
-pub rows_more : (rs : List Reading) (k : ℕ) (rows given new : List (List Bool)) (row : List Bool) → AreRowsBelow rs k rows → given ≡ rows → row ≡ row_bits given (children rs (length given)) (length rs) → new ≡ rows ++ row ∷ [] → AreRowsBelow rs (k + 1) new
+pub rows_more : (rs : List Reading) (k : ℕ) (rows given new : List (List Bool)) (row : List Bool)
+    → AreRowsBelow rs k rows → given ≡ rows → row ≡ row_bits given (children rs (length given)) (length rs)
+    → new ≡ rows ++ row ∷ [] → AreRowsBelow rs (k + 1) new
 rows_more rs k rows given new row h same made is = subst (λ (x : List (List Bool)). AreRowsBelow rs (k + 1) x) (sym is) (record { count = pushed_length rows row ∙ ap (λ (n : ℕ). n + 1) h.count; says = says })
   where
     last : (m : ℕ) → m < length rs → bit (rows ++ row ∷ []) (length rows) m ≡ reaches rs (length rows) m
     last m inside =
         let from_start : 0 + m ≡ m = omega arith in
-        ap (λ (r : List Bool). slice_index_or r m false) (pushed_last rows row ∙ made ∙ ap (λ (x : List (List Bool)). row_bits x (children rs (length x)) (length rs)) same)
-        ∙ mapped (λ (x : ℕ). list_any (λ c. nat_eq c x || bit rows c x) (children rs (length rows))) 0 (length rs) m inside
+        ap (λ (r : List Bool). slice_index_or r m false)
+        (pushed_last rows row ∙ made ∙ ap (λ (x : List (List Bool)). row_bits x (children rs (length x)) (length rs)) same)
+        ∙ mapped (λ (x : ℕ). list_any (λ c. nat_eq c x || bit rows c x) (children rs (length rows))) 0 (length rs) m
+        inside
         ∙ ap (λ (x : ℕ). list_any (λ c. nat_eq c x || bit rows c x) (children rs (length rows))) from_start
         ∙ row_says rs (length rows) m rows (subst (λ (x : ℕ). AreRowsBelow rs x rows) (sym h.count) h) inside
 
@@ -110,5 +122,8 @@ rows_more rs k rows given new row h same made is = subst (λ (x : List (List Boo
 -- ---- the claim at a place
 
 -- the claim of the manifest that was read at a place stands at that place among the claims
-pub claim_at : (rs : List Reading) (i : ℕ) (r : Reading) (c : Option Claim) → i < length rs → r ≡ get_or rs i r → c ≡ claim_in r → slice_get (map claim_in rs) i ≡ Some c
-claim_at rs i r c lt at is = slice_get-map claim_in rs i ∙ ap (option_map claim_in) (slice_get-get_or rs i r lt) ∙ ap (λ (x : Reading). Some (claim_in x)) (sym at) ∙ ap Some (sym is)
+pub claim_at : (rs : List Reading) (i : ℕ) (r : Reading) (c : Option Claim) → i < length rs → r ≡ get_or rs i r
+    → c ≡ claim_in r → slice_get (map claim_in rs) i ≡ Some c
+claim_at rs i r c lt at is =
+    slice_get-map claim_in rs i ∙ ap (option_map claim_in) (slice_get-get_or rs i r lt)
+    ∙ ap (λ (x : Reading). Some (claim_in x)) (sym at) ∙ ap Some (sym is)

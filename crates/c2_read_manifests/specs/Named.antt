@@ -5,6 +5,6 @@ use Rattle.c2_label_index.specs.declared.places.Places.{Places}
 use Rattle.c2_rules.specs.Chains.{place_of}
 use Rattle.c2_rules.specs.Readings.{Reading}
 
--- of each label the place of the manifest with it is kept, and of others none
+-- the place of the manifest with each label is kept, and none of a label that no manifest has
 abbrev pub FindsPlaces : List Reading → Places → Type 0
 FindsPlaces rs p = (label : List ℕ) → kept_place p label ≡ place_of rs label

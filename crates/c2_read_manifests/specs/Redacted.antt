@@ -57,15 +57,15 @@ pub record AreRedactedBelow (rs : List Reading) (n : ℕ) (sets : List Labels) :
   pub says : (m : ℕ) (label : List ℕ) → m < length rs →
       has_at sets m label ≡ any_below (redacts_at rs m label) n
 
--- by all
+-- One set for each manifest: it has what is redacted there by any manifest.
 abbrev pub AreRedacted : List Reading → List Labels → Type 0
 AreRedacted rs sets = AreRedactedBelow rs (length rs) sets
 
--- of the first `n` manifests, which are touched
+-- One flag for each of the first `n` manifests: whether it is touched.
 pub record AreTouchedBelow (rs : List Reading) (n : ℕ) (touched : List Bool) : Type 0 where
   pub count : length touched ≡ n
   pub says : (m : ℕ) → m < n → slice_index_or touched m false ≡ is_touched rs m
 
--- of all
+-- One flag for each manifest: whether it is touched.
 abbrev pub AreTouched : List Reading → List Bool → Type 0
 AreTouched rs touched = AreTouchedBelow rs (length rs) touched

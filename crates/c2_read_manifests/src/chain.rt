@@ -4,7 +4,7 @@ ghost use Rattle.c2_spec.specs.C2pa.Manifest.{IsStoreOf, manifests_of};
 ghost use Rattle.c2_rules.specs.Chains as form;
 ghost use Rattle.c2_rules.specs.Readings.{AreReadings, claim_in as claim_of};
 
-use crate::kept::{AssertionBox, Kept, claim_in};
+use crate::kept::{AssertionBox, ReadManifest, claim_in};
 use crate::labelled::{Manifests, kept, place_among};
 use crate::places::{child_among, children_among};
 use crate::redacted::{Redacting, fill_touched, is_redacted_at, reaching_of, redacting_manifests};
@@ -62,7 +62,7 @@ fn labelled<'c, 't>(all: &'c ReadManifests<'t>) -> &'c Manifests<'t>
 }
 
 /// The manifests. Takes no memory.
-pub fn manifests<'c, 't>(all: &'c ReadManifests<'t>) -> &'c [Kept<'t>]
+pub fn manifests<'c, 't>(all: &'c ReadManifests<'t>) -> &'c [ReadManifest<'t>]
     ensures { result.now ≡ all.now }
 {
     kept(labelled(all))

@@ -8,7 +8,7 @@ ghost use Rattle.c2_spec.specs.C2pa.Manifest.{Superbox, IsStoreOf, superbox_at};
 ghost use Rattle.c2_spec.specs.C2pa.Sign1.{IsHeader, parts_of};
 ghost use Rattle.c2_rules.specs.Readings.{IsParsed, IsMessageOf, IsReading, AreReadings};
 
-use crate::kept::{Kept, StoreBox};
+use crate::kept::{ReadManifest, StoreBox};
 use crate::reading::{read_boxes, read_claim, read_message, store_box};
 use c2_base::NoMemory;
 use c2_claim::claim_version;
@@ -66,7 +66,7 @@ fn claim_payload<'c>(claims: &'c [StoreBox<'_>]) -> Option<&'c [u8]>
 }
 
 /// The claim bytes of a manifest.
-pub fn claim_bytes<'c>(own: &'c Kept<'_>) -> Option<&'c [u8]>
+pub fn claim_bytes<'c>(own: &'c ReadManifest<'_>) -> Option<&'c [u8]>
     ensures { option_map (λ b. b.now) result ≡ form.claim_bytes own.now.manifest.claims }
 {
     claim_payload(own.claims.as_slice())
@@ -129,7 +129,11 @@ fn some_box<'t>(tree: &'t Tree<'_>, k: Option<usize>) -> Option<StoreBox<'t>>
 }
 
 /// What is kept of the manifest that has these boxes in the tree.
-fn keep<'t>(alloc: Global, tree: &'t Tree<'_>, own: &ManifestBoxes) -> Result<Kept<'t>, NoMemory>
+fn keep<'t>(
+    alloc: Global,
+    tree: &'t Tree<'_>,
+    own: &ManifestBoxes,
+) -> Result<ReadManifest<'t>, NoMemory>
     requires whole { own.now.whole < tree_count tree.now }
     requires claims { All (λ k. k < tree_count tree.now) own.now.claims }
     requires signature { IfSome own.now.signature (λ k. k < tree_count tree.now) }
@@ -145,7 +149,7 @@ fn keep<'t>(alloc: Global, tree: &'t Tree<'_>, own: &ManifestBoxes) -> Result<Ke
     let message = read_signature(alloc, &signature_box)?;
     let assertions = own.assertions.as_slice();
     let boxes = read_boxes(alloc, tree, assertions)?;
-    Ok(Kept {
+    Ok(ReadManifest {
         label: name,
         contents: bytes,
         is_update: own.is_update,
@@ -163,7 +167,7 @@ fn keep_at<'t>(
     tree: &'t Tree<'_>,
     store: &Store,
     i: usize,
-) -> Result<Kept<'t>, NoMemory>
+) -> Result<ReadManifest<'t>, NoMemory>
     requires inside { i < length store.now }
     requires same { IsStoreOf tree.now store.now }
     ensures { IfOk result
@@ -180,7 +184,7 @@ pub fn keep_store<'t>(
     alloc: Global,
     tree: &'t Tree<'_>,
     store: &Store,
-) -> Result<Vec<Kept<'t>>, NoMemory>
+) -> Result<Vec<ReadManifest<'t>>, NoMemory>
     requires { IsStoreOf tree.now store.now }
     ensures { IfOk result (λ v. AreReadings (form.manifests_of tree.now) v.items) }
 {

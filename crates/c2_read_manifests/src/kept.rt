@@ -47,7 +47,7 @@ impl<'t> Model for AssertionBox<'t> {
 
 /// A manifest, and what its claim, its signature and its assertion boxes are read as.
 #[derive(Drop)]
-pub struct Kept<'t> {
+pub struct ReadManifest<'t> {
     pub label: Option<&'t str>,
     pub contents: &'t [u8],
     pub is_update: bool,
@@ -58,7 +58,7 @@ pub struct Kept<'t> {
     pub boxes: Vec<AssertionBox<'t>>,
 }
 
-impl<'t> Model for Kept<'t> {
+impl<'t> Model for ReadManifest<'t> {
     ghost use Rattle.std.specs.Prelude.{map, option_map};
     ghost use Rattle.std.specs.Coded.{codes};
     ghost use Rattle.c2_spec.specs.C2pa.Sign1.{parts_of};
@@ -88,7 +88,7 @@ impl<'t> Model for Kept<'t> {
 }
 
 /// The manifest's label.
-pub fn label<'c>(own: &'c Kept<'_>) -> &'c str
+pub fn label<'c>(own: &'c ReadManifest<'_>) -> &'c str
     ensures { result.now ≡ label_in own.now }
 {
     match own.label {
@@ -98,7 +98,7 @@ pub fn label<'c>(own: &'c Kept<'_>) -> &'c str
 }
 
 /// Whether a URI with this manifest, or with none, names a box of this one.
-pub fn is_own(own: &Kept<'_>, named: Option<&str>) -> bool
+pub fn is_own(own: &ReadManifest<'_>, named: Option<&str>) -> bool
     ensures { result ≡ questions.is_own own.now.manifest (option_map (λ x. x.now) named.entry) }
 {
     match named {
@@ -111,7 +111,7 @@ pub fn is_own(own: &Kept<'_>, named: Option<&str>) -> bool
 }
 
 /// The claim of a manifest, where it has one.
-pub fn claim_in<'c>(own: &'c Kept<'_>) -> Option<&'c Claim>
+pub fn claim_in<'c>(own: &'c ReadManifest<'_>) -> Option<&'c Claim>
     ensures { option_map (λ c. c.now) result ≡ readings.claim_in own.now }
 {
     match &own.claim {
@@ -121,7 +121,7 @@ pub fn claim_in<'c>(own: &'c Kept<'_>) -> Option<&'c Claim>
 }
 
 /// The assertion boxes of a manifest.
-pub fn boxes<'c, 't>(own: &'c Kept<'t>) -> &'c [AssertionBox<'t>]
+pub fn boxes<'c, 't>(own: &'c ReadManifest<'t>) -> &'c [AssertionBox<'t>]
     ensures { result.now ≡ own.now.boxes }
 {
     own.boxes.as_slice()
@@ -142,7 +142,7 @@ pub fn ingredient<'c>(b: &'c AssertionBox<'_>) -> &'c Parsed<Ingredient>
 }
 
 /// Whether a manifest is an update.
-pub fn is_update(own: &Kept<'_>) -> bool
+pub fn is_update(own: &ReadManifest<'_>) -> bool
     ensures { result ≡ own.now.manifest.is_update }
 {
     own.is_update

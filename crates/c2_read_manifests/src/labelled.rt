@@ -7,7 +7,7 @@ ghost use Rattle.c2_rules.specs.Readings.{AreReadings};
 ghost use Rattle.c2_read_manifests.specs.Named.{FindsPlaces};
 
 use crate::keeping::keep_store;
-use crate::kept::Kept;
+use crate::kept::ReadManifest;
 use c2_base::NoMemory;
 use c2_jumbf::Tree;
 use c2_label_index::{Places, add_place, first_place, no_places};
@@ -18,7 +18,7 @@ use std::marker::Model;
 /// The manifests of a store in box order, as they were read, and where each label stands first.
 #[derive(Drop)]
 pub struct Manifests<'t> {
-    kept: Vec<Kept<'t>>,
+    kept: Vec<ReadManifest<'t>>,
     places: Places<'t>,
 }
 
@@ -39,7 +39,7 @@ impl<'t> Model for Manifests<'t> {
 }
 
 /// The manifest's label, as it stands in the tree.
-fn tree_label<'t>(own: &Kept<'t>) -> &'t str
+fn tree_label<'t>(own: &ReadManifest<'t>) -> &'t str
     ensures { result.now ≡ label_in own.now }
 {
     match own.label {
@@ -49,7 +49,7 @@ fn tree_label<'t>(own: &Kept<'t>) -> &'t str
 }
 
 /// Where the labels of these manifests stand first.
-fn places_of<'t>(alloc: Global, kept: &[Kept<'t>]) -> Result<Places<'t>, NoMemory>
+fn places_of<'t>(alloc: Global, kept: &[ReadManifest<'t>]) -> Result<Places<'t>, NoMemory>
     ensures { IfOk result (λ places. FindsPlaces kept.now places) }
 {
     let mut places = no_places(alloc);
@@ -75,7 +75,7 @@ pub fn named_manifests<'t>(
 }
 
 /// The manifests.
-pub fn kept<'c, 't>(all: &'c Manifests<'t>) -> &'c [Kept<'t>]
+pub fn kept<'c, 't>(all: &'c Manifests<'t>) -> &'c [ReadManifest<'t>]
     ensures { result.now ≡ all.now }
 {
     all.kept.as_slice()

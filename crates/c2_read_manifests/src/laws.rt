@@ -17,33 +17,21 @@ ghost use Rattle.c2_rules.specs.Claims.{HaveClaims};
 ghost use Rattle.c2_rules.specs.Questions.{HasQuestion, IsQuestionOf};
 ghost use Rattle.c2_rules.specs.Readings.{Reading, IsReading, AreReadings, claim_in, question_in};
 
-use c2_cbor_spec::one_item;
-use c2_sigstruct::each_item_is_a_message_or_not;
-
 /// A manifest has one claim, or none.
 pub fn one_claim()
     ensures { (m : Manifest) (c d : Option Claim) → HasClaim m c → HasClaim m d → c ≡ d }
-{
-    // Only the prover needs this law.
-    one_item();
-}
+{}
 
 /// Manifests have one list of claims.
 pub fn one_list_of_claims()
     ensures { (ms : List Manifest) (cs ds : List (Option Claim)) → HaveClaims ms cs
         → HaveClaims ms ds → cs ≡ ds }
-{
-    // Only the prover needs this law.
-    one_item();
-}
+{}
 
 /// Judges are asked at most one question of a manifest.
 pub fn one_question()
     ensures { (m : Manifest) (q r : Question) → HasQuestion m q → HasQuestion m r → q ≡ r }
-{
-    // Only the prover needs this law.
-    one_item();
-}
+{}
 
 /// Bytes that a program can hold are one legal item, or aren't for one cause, and never both.
 pub fn each_list_is_an_item_or_not()
@@ -51,32 +39,20 @@ pub fn each_list_is_an_item_or_not()
         ⊎ ((e : CborError) × IsUnread s e) }
     ensures one { (s : List ℕ) (v : Item) (e : CborError) → IsHeld s → HasItem s v
         → IsUnread s e → ⊥ }
-{
-    // Only the prover needs this law.
-    c2_cbor_spec::each_list_is_an_item_or_not();
-}
+{}
 
 /// A manifest whose claim bytes a program can hold has a claim or none.
 pub fn each_manifest_has_a_claim_or_not()
     ensures { (m : Manifest) → IfSome (claim_bytes m.claims) IsHeld
         → (c : Option Claim) × HasClaim m c }
-{
-    // Only the prover needs these laws.
-    one_item();
-    c2_cbor_spec::each_list_is_an_item_or_not();
-}
+{}
 
 /// A manifest whose claim bytes and signature item a program can hold has a question or none.
 pub fn each_manifest_has_a_question_or_not()
     ensures { (m : Manifest) → IfSome (claim_bytes m.claims) IsHeld
         → IfSome (option_and_then (λ (b : Superbox). b.item) m.signature) IsHeld
         → (found : Option Question) × IsQuestionOf m found }
-{
-    // Only the prover needs these laws.
-    one_item();
-    c2_cbor_spec::each_list_is_an_item_or_not();
-    each_item_is_a_message_or_not();
-}
+{}
 
 /// What is read of a manifest, of manifests and of a store is one.
 pub fn one_reading()
@@ -85,20 +61,14 @@ pub fn one_reading()
         → AreReadings ms ss → rs ≡ ss }
     ensures store { (m : Media) (ms : List Manifest) (s t : StoreReading) → IsStoreReading m ms s
         → IsStoreReading m ms t → s ≡ t }
-{
-    // Only the prover needs this law.
-    one_item();
-}
+{}
 
 /// The claim of a manifest that was read is its claim, and its question is its question; each is none where it has none.
 pub fn a_reading_is_the_claim_and_the_question()
     ensures claim { (m : Manifest) (r : Reading) → IsReading m r → HasClaim m (claim_in r) }
     ensures question { (m : Manifest) (r : Reading) → IsReading m r
         → IsQuestionOf m (question_in r) }
-{
-    // Only the prover needs this law.
-    one_item();
-}
+{}
 
 /// The manifests of a store have different labels.
 pub fn labels_of_a_store_differ()
@@ -112,9 +82,4 @@ pub fn each_store_is_read()
         → (rs : List Reading) × AreReadings ms rs }
     ensures binding { (payload : Option (List ℕ)) → IfSome payload IsHeld
         → (v : Option Item) × IsItemOf payload v }
-{
-    // Only the prover needs these laws.
-    one_item();
-    c2_cbor_spec::each_list_is_an_item_or_not();
-    each_item_is_a_message_or_not();
-}
+{}

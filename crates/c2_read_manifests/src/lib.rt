@@ -21,7 +21,7 @@ pub use chain::{
 };
 pub use keeping::claim_bytes;
 pub use kept::{
-    AssertionBox, Kept, StoreBox, box_label, boxes, ingredient, is_own, is_update, label,
+    AssertionBox, ReadManifest, StoreBox, box_label, boxes, ingredient, is_own, is_update, label,
 };
 pub use laws::{
     a_reading_is_the_claim_and_the_question, each_list_is_an_item_or_not,

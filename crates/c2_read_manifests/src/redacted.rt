@@ -8,7 +8,7 @@ ghost use Rattle.c2_rules.specs.Chains.{LabelsDiffer};
 ghost use Rattle.c2_rules.specs.Readings.{AreReadings, redactions_in};
 ghost use Rattle.c2_read_manifests.specs.Redacted.{names_at, is_aimed, AddsTexts, AddsAt, AddsOf, AreNone, AreRedacted, AreTouched};
 
-use crate::kept::{Kept, is_own};
+use crate::kept::{ReadManifest, is_own};
 use crate::labelled::{Manifests, kept, place_among};
 use crate::laws::labels_of_a_store_differ;
 use crate::rows::{Reaching, is_below_of, is_in_reach, named_of, reaching_manifests};
@@ -119,7 +119,7 @@ fn redact_texts(
 }
 
 /// The redactions of a manifest's claim.
-fn redactions<'c>(own: &'c Kept<'_>) -> &'c [Text]
+fn redactions<'c>(own: &'c ReadManifest<'_>) -> &'c [Text]
     ensures { result.now ≡ redactions_in own.now }
 {
     match &own.claim {
@@ -230,7 +230,7 @@ pub fn is_redacted_at(all: &Redacting<'_>, m: usize, name: &str) -> bool
 }
 
 /// The label that an entry of a manifest's claim lists.
-pub fn entry_label<'c>(own: &Kept<'_>, entry: &'c Ref) -> Option<&'c str>
+pub fn entry_label<'c>(own: &ReadManifest<'_>, entry: &'c Ref) -> Option<&'c str>
     ensures { option_map (λ x. x.now) result ≡ form.entry_label own.now.manifest entry.now }
 {
     match parse(entry.url.as_str()) {
@@ -246,7 +246,7 @@ pub fn entry_label<'c>(own: &Kept<'_>, entry: &'c Ref) -> Option<&'c str>
 }
 
 /// Whether one of these entries of a manifest's claim lists a label that is redacted in it.
-fn lists_redacted(all: &Redacting<'_>, m: usize, own: &Kept<'_>, entries: &[Ref]) -> bool
+fn lists_redacted(all: &Redacting<'_>, m: usize, own: &ReadManifest<'_>, entries: &[Ref]) -> bool
     requires { m < length all.now }
     ensures { result ≡ list_any
         (λ e. form.passes_some (form.is_redacted all.now m)
@@ -260,7 +260,7 @@ fn lists_redacted(all: &Redacting<'_>, m: usize, own: &Kept<'_>, entries: &[Ref]
 }
 
 /// Whether the claim of this manifest, at place `m`, lists a label that is redacted there.
-fn touches(all: &Redacting<'_>, m: usize, own: &Kept<'_>) -> bool
+fn touches(all: &Redacting<'_>, m: usize, own: &ReadManifest<'_>) -> bool
     requires { m < length all.now }
     ensures { result ≡ form.lists_redacted all.now m (Some own.now) }
 {

@@ -26,27 +26,28 @@ HasQuestionThen =
 -- ---- lists
 
 -- neither of two failed where the first of both didn't
-neither : (a b : Option Failing) → option_or a b ≡ None → (a ≡ None) × (b ≡ None)
+pub neither : (a b : Option Failing) → option_or a b ≡ None → (a ≡ None) × (b ≡ None)
 neither None b e = (refl, e)
 neither (Some f) b e = absurd (cc (e))
 
 -- no condition of two lists fails where none of either does
-none_joined : (xs ys : List Test) → first_failing xs ≡ None → first_failing ys ≡ None → first_failing (xs ++ ys) ≡ None
+pub none_joined : (xs ys : List Test) → first_failing xs ≡ None → first_failing ys ≡ None
+    → first_failing (xs ++ ys) ≡ None
 none_joined xs ys h k = first_failing_append xs ys ∙ ap (λ (o : Option Failing). option_or o (first_failing ys)) h ∙ k
 
 -- and of neither where none of both does
-none_split : (xs ys : List Test) → first_failing (xs ++ ys) ≡ None
+pub none_split : (xs ys : List Test) → first_failing (xs ++ ys) ≡ None
     → (first_failing xs ≡ None) × (first_failing ys ≡ None)
 none_split xs ys h = neither (first_failing xs) (first_failing ys) (sym (first_failing_append xs ys) ∙ h)
 
 -- the questions of both lists are approved, so those of each
-approved_parts : (said : Question → Verdict) (xs ys : List Question) → AreApproved said (xs ++ ys)
+pub approved_parts : (said : Question → Verdict) (xs ys : List Question) → AreApproved said (xs ++ ys)
     → AreApproved said xs × AreApproved said ys
 approved_parts said [] ys h = (tt, h)
 approved_parts said (q ∷ qs) ys h = let rest = approved_parts said qs ys h.1 in ((h.0, rest.0), rest.1)
 
 -- a member of a list that was read is one of the manifests as it was read
-read_at : (ms : List Manifest) (rs : List Reading) (i : ℕ) (r : Reading) → AllZip IsReading ms rs
+pub read_at : (ms : List Manifest) (rs : List Reading) (i : ℕ) (r : Reading) → AllZip IsReading ms rs
     → slice_get rs i ≡ Some r → (m : Manifest) × IsReading m r
 read_at [] [] i r h at = absurd (cc (at))
 read_at [] (s ∷ rs) i r h at = absurd h
@@ -60,7 +61,7 @@ read_at (m ∷ ms) (s ∷ rs) (suc i) r h at = read_at ms rs i r h.1 at
 -- ---- one manifest
 
 -- no condition on a verdict fails that is an approval
-approved_passes : (said : Question → Verdict) (r : Reading) (o : Option Question) → is_some o ≡ true
+pub approved_passes : (said : Question → Verdict) (r : Reading) (o : Option Question) → is_some o ≡ true
     → AreApproved said (option_to_list o) → first_failing (verdict_tests r (option_map said o)) ≡ None
 approved_passes said r None some h = absurd (cc (some))
 approved_passes said r (Some q) some h = by (said q) h.0

@@ -4,10 +4,11 @@ use Rattle.std.proofs.lemmas.Bool.Decides.{Decides-ltb}
 use Rattle.std.specs.List.{range_with_len}
 use Rattle.c2_spec.specs.Bmff.Boxes.{Box, short, long, to_end, box_len}
 use Rattle.c2_spec.specs.Bmff.Hash.{Exclusion, IsExcludedBy, IsExcluded}
-use Rattle.c2_spec.specs.Bmff.Paths.{PathStep, PlacedBox, placed_from, matched, OnPath, last, below}
+use Rattle.c2_spec.specs.Bmff.Paths.{PathStep, PlacedBox, placed_from, last}
 use Rattle.c2_spec.specs.Bmff.Cover.{IsBmffCover, bmff_text}
 use Rattle.c2_spec.specs.Cover.{covered_count}
 use Rattle.c2_rules.proofs.ListLemmas.{contains_none, contains_cons, contains_head}
+use Rattle.c2_spec.proofs.BmffShared.{alone}
 
 -- a box of type `ftyp` with 8 bytes of payload
 abbrev ftyp_box : Box
@@ -53,11 +54,6 @@ open_text = refl
 head_is : (s t : PathStep) (ss : List PathStep) → s ∷ ss ≡ t ∷ [] → s ≡ t
 head_is s t ss e = cc (e)
 
--- a box on a path of one step is one that the step matches
-alone : (siblings : List PlacedBox) (steps : List PathStep) (b : PlacedBox) → OnPath siblings steps b → (step : PathStep) → steps ≡ step ∷ [] → Contains (matched step siblings) b
-alone siblings steps b (last _ s _ c) step e = subst (λ (t : PathStep). Contains (matched t siblings) b) (head_is s step [] e) c
-alone siblings steps b (below _ s n more _ p cs i m h o) step e = absurd (cc (e))
-
 -- what a list of one member contains is that member
 only_one : {X : Type 0} (x y : X) → Contains (x ∷ []) y → x ≡ y
 only_one x y c = elim (contains_cons x y [] c) [
@@ -78,20 +74,26 @@ holds_below : (i : ℕ) → nat_lt i 16 ≡ true → IsExcluded two_boxes (ftyp_
 holds_below i e = record {
   exclusion = ftyp_entry;
   is_one = contains_head ftyp_entry [];
-  excludes = record { at = ftyp_placed; on_path = last _ _ _ (contains_head ftyp_placed []); sized = tt; tests = tt; from = omega arith; to = (Decides-ltb i 16).0 e; part = refl };
+  excludes =
+      record
+      { at = ftyp_placed; on_path = last _ _ _ (contains_head ftyp_placed []); sized = tt; tests = tt; from = omega arith; to = (Decides-ltb i 16).0 e; part = refl };
 }
 
 -- no other position is excluded by it
 only_below : (i : ℕ) → IsExcluded two_boxes (ftyp_entry ∷ []) i → nat_lt i 16 ≡ true
 only_below i h =
     let entry : ftyp_entry ≡ h.exclusion = only_one ftyp_entry h.exclusion h.is_one in
-    let by : IsExcludedBy two_boxes ftyp_entry i = subst (λ (x : Exclusion). IsExcludedBy two_boxes x i) (sym entry) h.excludes in
-    let box : ftyp_placed ≡ by.at = only_one ftyp_placed by.at (alone (placed_from 0 two_boxes) ftyp_entry.path by.at by.on_path (record { kind = codes "ftyp"; nth = None }) refl) in
+    let by : IsExcludedBy two_boxes ftyp_entry i =
+    subst (λ (x : Exclusion). IsExcludedBy two_boxes x i) (sym entry) h.excludes in
+    let box : ftyp_placed ≡ by.at =
+    only_one ftyp_placed by.at
+    (alone (placed_from 0 two_boxes) ftyp_entry.path by.at by.on_path (record { kind = codes "ftyp"; nth = None }) refl) in
     (Decides-ltb i 16).1 (subst (λ (b : PlacedBox). i < b.at + box_len b.box) (sym box) by.to)
 
 -- the entry `/ftyp` covers these bytes, and 9 positions; 16 excluded ones lie outside a range behind the file
 pub ftyp_excluded : IsBmffCover two_boxes 25 (ftyp_entry ∷ []) (range_with_len 0 16) (offset ++ (0 ∷ 0 ∷ 0 ∷ 9 ∷ 0x6D ∷ 0x64 ∷ 0x61 ∷ 0x74 ∷ 0x41 ∷ []))
-ftyp_excluded = record { excludes = λ i. nat_lt i 16; exactly = λ i. (holds_below i, only_below i); positions = refl; bytes = refl }
+ftyp_excluded =
+    record { excludes = λ i. nat_lt i 16; exactly = λ i. (holds_below i, only_below i); positions = refl; bytes = refl }
 
 -- of 25 positions 9 are covered where the first 16 are excluded
 nine_left : covered_count (range_with_len 0 16) 25 ≡ 9

@@ -1,7 +1,6 @@
 -- Conditions that hold: one by one, and at each place of a list. And the one by which bytes are compared.
-use Rattle.std.proofs.Common.{◌≡◌, ℕ, zero, suc, Bool, true, false, cond, List, [], ◌∷◌, Some, None, refl, sym, ap, ◌∙◌, bytes_eq}
+use Rattle.std.proofs.Common.{◌≡◌, zero, suc, Bool, true, false, cond, List, [], ◌∷◌, Some, None, refl, sym, ap, ◌∙◌}
 use Rattle.std.specs.List.{AllByRecursion}
-use Rattle.std.proofs.lemmas.Slice.Eq.{bytes_eq-Decides}
 use Rattle.c2_rules.specs.Tests.{AllHold, Test, first_failing}
 
 -- a condition holds
@@ -28,7 +27,3 @@ none_holds (t ∷ ts) e = go t.fails refl e (none_holds ts)
         → (first_failing ts ≡ None → AllByRecursion Holds ts) → AllByRecursion Holds (t ∷ ts)
     go true is none rest = absurd (cc (none))
     go false is none rest = (is, rest none)
-
--- bytes are equal to themselves by the test
-pub same_bytes : (a : List ℕ) → bytes_eq a a ≡ true
-same_bytes a = (bytes_eq-Decides a a).1 refl

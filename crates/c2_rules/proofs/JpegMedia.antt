@@ -10,11 +10,13 @@ use Rattle.c2_spec.specs.Located.{Located, here}
 use Rattle.c2_rules.specs.Binding.{Media, IsMedia}
 
 -- a file of segments doesn't begin as a BMFF file
-pub no_bmff : (file : List ℕ) (segments : List Segment) (rest : List ℕ) → HasSegments file segments rest → is_bmff file ≡ false
+pub no_bmff : (file : List ℕ) (segments : List Segment) (rest : List ℕ) → HasSegments file segments rest
+    → is_bmff file ≡ false
 no_bmff file segments rest h = ap is_bmff h.bytes
 
 -- a file of segments begins as a JPEG
-pub begins : (file : List ℕ) (segments : List Segment) (rest : List ℕ) → HasSegments file segments rest → begins_jpeg file ≡ true
+pub begins : (file : List ℕ) (segments : List Segment) (rest : List ℕ) → HasSegments file segments rest
+    → begins_jpeg file ≡ true
 begins file segments rest h = ap begins_jpeg h.bytes
 
 -- a JPEG with these bytes
@@ -34,9 +36,11 @@ pub of_jpeg : (file : List ℕ) (what : Located) → is_bmff file ≡ false → 
 of_jpeg file what e h = subst (λ b. MatchBool b (IsBmffLocated file what) (jpeg.IsLocated file what)) e h
 
 -- a file with a store of a JPEG is no BMFF file
-pub store_no_bmff : (file : List ℕ) (start len : ℕ) (store : List ℕ) → HasJpegStore file start len store → is_bmff file ≡ false
+pub store_no_bmff : (file : List ℕ) (start len : ℕ) (store : List ℕ) → HasJpegStore file start len store
+    → is_bmff file ≡ false
 store_no_bmff file start len store h = no_bmff file h.segments h.rest h.begins
 
 -- a store of a JPEG is the store of its file
-pub store_located : (file : List ℕ) (start len : ℕ) (store : List ℕ) → HasJpegStore file start len store → IsLocated file (here start len store)
+pub store_located : (file : List ℕ) (start len : ℕ) (store : List ℕ) → HasJpegStore file start len store
+    → IsLocated file (here start len store)
 store_located file start len store h = as_jpeg file (here start len store) (store_no_bmff file start len store h) h

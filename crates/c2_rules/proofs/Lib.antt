@@ -10,8 +10,10 @@ pub mod FirstLemmas
 pub mod ItemCode
 pub mod JpegMedia
 pub mod ListLemmas
+pub mod OneAnswer
 pub mod OneMedia
 pub mod OpenedStore
 pub mod ReachLemmas
 pub mod SeenLemmas
 pub mod TestLemmas
+pub mod TheLaws

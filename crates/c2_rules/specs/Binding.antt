@@ -90,15 +90,15 @@ pub record IsBoxBinding (roots : List Box) (size : ℕ) (h : BmffHash) (b : Bind
   pub cover : IsBmffCover roots size h.exclusions b.excluded b.text
 
 -- what a BMFF hash, or the refusal of its fields, comes to over these root boxes
-abbrev pub IsRead : List Box → ℕ → Result BmffHash FieldError → Result Binding FieldError → Type 0
-IsRead roots size (Err e) b = b ≡ Err e
-IsRead roots size (Ok h) (Err e) = ⊥
-IsRead roots size (Ok h) (Ok b) = IsBoxBinding roots size h b
+abbrev pub IsBindingFrom : List Box → ℕ → Result BmffHash FieldError → Result Binding FieldError → Type 0
+IsBindingFrom roots size (Err e) b = b ≡ Err e
+IsBindingFrom roots size (Ok h) (Err e) = ⊥
+IsBindingFrom roots size (Ok h) (Ok b) = IsBoxBinding roots size h b
 
 -- what an item of a BMFF hash comes to in this container
 abbrev pub IsBmffBinding : Container → ℕ → Item → Result Binding FieldError → Type 0
 IsBmffBinding jpeg size v b = b ≡ Err (jpeg_refusal v)
-IsBmffBinding (bmff roots) size v b = IsRead roots size (bmff_hash_of v) b
+IsBmffBinding (bmff roots) size v b = IsBindingFrom roots size (bmff_hash_of v) b
 
 -- what an item of a binding of this kind comes to in a media file
 abbrev pub IsBinding : Media → Kind → Item → Result Binding FieldError → Type 0

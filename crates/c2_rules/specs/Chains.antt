@@ -36,7 +36,7 @@ abbrev pub named_by : Option Ingredient → Option (List ℕ)
 named_by None = None
 named_by (Some g) = option_and_then (λ (ref : Ref). manifest_named ref.url) g.manifest
 
--- that an assertion box names, where it is read as an ingredient
+-- the label of the manifest that an assertion box names, where it is read as an ingredient
 abbrev pub named_in : ReadBox → Option (List ℕ)
 named_in b = named_by (value_in b.ingredient)
 
@@ -65,7 +65,7 @@ abbrev pub boxes_of : Option Reading → List ReadBox
 boxes_of None = []
 boxes_of (Some r) = r.boxes
 
--- those of the manifest at place `n`
+-- the assertion boxes of the manifest at place `n`
 abbrev pub boxes_at : List Reading → ℕ → List ReadBox
 boxes_at rs n = boxes_of (slice_get rs n)
 

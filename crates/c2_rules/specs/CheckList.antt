@@ -60,7 +60,7 @@ tests_of rules rs i (Some r) = rules (seen_at rs i r)
 abbrev pub place_tests : (Seen → List Test) → List Reading → ℕ → List Test
 place_tests rules rs i = if is_reached rs i then tests_of rules rs i (slice_get rs i) else []
 
--- of all manifests, the last first
+-- the rules of all manifests that are reached, the last first
 abbrev pub chain_tests : (Seen → List Test) → List Reading → List Test
 chain_tests rules rs = downward (place_tests rules rs) (length rs)
 
@@ -103,7 +103,7 @@ questions_of (Some r) = option_to_list (question_in r)
 abbrev pub question_at : List Reading → ℕ → List Question
 question_at rs i = if is_reached rs i then questions_of (slice_get rs i) else []
 
--- those of all manifests, the last first
+-- the questions of all manifests that are reached, the last first
 abbrev pub questions : List Reading → List Question
 questions rs = downward (question_at rs) (length rs)
 
@@ -116,27 +116,27 @@ pub record Asked : Type 0 where
   pub label : List ℕ
   pub question : Option Question
 
--- of this manifest
+-- the label and the question of a manifest; nothing where there is no manifest
 abbrev pub asked_of : Option Reading → List Asked
 asked_of None = []
 asked_of (Some r) = record { label = label_in r; question = question_in r } ∷ []
 
--- of the manifest at place `i`, where it is reached
+-- the label and the question of the manifest at place `i`, where it is reached
 abbrev pub asked_at : List Reading → ℕ → List Asked
 asked_at rs i = if is_reached rs i then asked_of (slice_get rs i) else []
 
--- of all manifests, the last first: a line each in the report on questions
+-- the labels and questions of all manifests that are reached, the last first: a line each in the report on questions
 abbrev pub all_asked : List Reading → List Asked
 all_asked rs = downward (asked_at rs) (length rs)
 
--- those of the manifests below place `n` that the check asks: each while no rule of a later one fails
+-- the questions of the manifests below place `n` that the check asks: each while no rule of a later manifest fails
 abbrev pub asked_below : (Seen → List Test) → List Reading → ℕ → List Question
 asked_below rules rs zero = []
 asked_below rules rs (suc n) =
     question_at rs n
     ++ (if is_none (first_failing (place_tests rules rs n)) then asked_below rules rs n else [])
 
--- those that the check asks of a store: none where the active manifest is an update
+-- the questions that the check asks of a store: none where the active manifest is an update
 abbrev pub check_asks : (Alg → List ℕ → List ℕ) → (Question → Verdict) → List Reading
     → List Question
 check_asks hash said rs =
@@ -155,7 +155,7 @@ abbrev pub unredacted_of : (List ℕ → Bool) → Option Reading → List (List
 unredacted_of redacted None = []
 unredacted_of redacted (Some r) = filter (λ (label : List ℕ). not (redacted label)) (labels_in r)
 
--- those of the manifest at place `i`, where it is reached
+-- the labels that the entries of the manifest at place `i` list and that aren't redacted, where it is reached
 abbrev pub kept_labels : List Reading → ℕ → List (List ℕ)
 kept_labels rs i = if is_reached rs i then unredacted_of (is_redacted rs i) (slice_get rs i) else []
 

@@ -33,15 +33,15 @@ use Rattle.c2_rules.specs.declared.parsed.Parsed.TheVariants.{NoItem, NoForm, Va
 
 -- ---- URIs
 
--- of a box in the manifest with this label
+-- the URI of a box in the manifest with this label
 abbrev pub box_uri : List ℕ → PlainTarget → List ℕ
 box_uri label target = uri_text (record { manifest = Some label; target = target })
 
--- of the manifest itself
+-- the URI of a manifest
 abbrev pub manifest_uri : Reading → List ℕ
 manifest_uri r = box_uri (label_in r) whole
 
--- of its signature box
+-- the URI of a manifest's signature box
 abbrev pub signature_uri : Reading → List ℕ
 signature_uri r = box_uri (label_in r) signature
 
@@ -49,16 +49,16 @@ signature_uri r = box_uri (label_in r) signature
 abbrev pub claim_label : List Superbox → Option (List ℕ)
 claim_label boxes = option_and_then (λ (b : Superbox). b.label) (slice_get boxes 0)
 
--- of its first claim box
+-- the URI of a manifest's first claim box
 abbrev pub claim_uri : Reading → List ℕ
 claim_uri r = box_uri (label_in r) (other (unwrap_or (claim_label r.manifest.claims) []))
 
--- of an assertion box: of the assertion store where the box has no label
+-- what the URI of an assertion box points to: the assertion store where the box has no label
 abbrev pub assertion_target : Option (List ℕ) → PlainTarget
 assertion_target None = other (codes "c2pa.assertions")
 assertion_target (Some label) = assertion label
 
--- of an assertion box with this label, or without one
+-- the URI of an assertion box with this label, or without one
 abbrev pub assertion_box_uri : Reading → Option (List ℕ) → List ℕ
 assertion_box_uri r label = box_uri (label_in r) (assertion_target label)
 
@@ -91,7 +91,7 @@ abbrev pub has_digest_by : (Alg → List ℕ → List ℕ) → Option Alg → Li
 has_digest_by hash None list digest = false
 has_digest_by hash (Some alg) list digest = bytes_eq (hash alg list) digest
 
--- by the algorithm of a reference or a binding in this manifest
+-- this list has this digest by the algorithm of a reference or a binding in this manifest
 abbrev pub has_digest : (Alg → List ℕ → List ℕ) → Reading → Option (List ℕ) → List ℕ → List ℕ → Bool
 has_digest hash r own list digest = has_digest_by hash (alg_named (alg_in r own)) list digest
 
@@ -426,6 +426,6 @@ rest_tests hash s =
 abbrev pub manifest_tests : (Alg → List ℕ → List ℕ) → Option Verdict → Seen → List Test
 manifest_tests hash v s = claim_tests s.own ++ (verdict_tests s.own v ++ rest_tests hash s)
 
--- the same apart from the verdict
+-- the rules of a manifest apart from those on the verdict
 abbrev pub unjudged_tests : (Alg → List ℕ → List ℕ) → Seen → List Test
 unjudged_tests hash s = claim_tests s.own ++ rest_tests hash s

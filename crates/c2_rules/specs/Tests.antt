@@ -22,7 +22,7 @@ abbrev pub over_all : {X : Type 0} → (ℕ → X → Test) → ℕ → List X �
 over_all test_of k [] = []
 over_all test_of k (x ∷ xs) = test_of k x ∷ over_all test_of (k + 1) xs
 
--- of each of the first `n` places, the last first
+-- the lists of the first `n` places one after the other, the last place first
 abbrev pub downward : {A : Type 0} → (ℕ → List A) → ℕ → List A
 downward list_at zero = []
 downward list_at (suc n) = list_at n ++ downward list_at n

@@ -14,7 +14,10 @@ use Rattle.c2_sample.specs.declared.types.SampleError.{SampleError}
 use Rattle.c2_sample.specs.declared.types.Sampled.TheVariants.{Checked}
 
 -- the lengths and the answer are what the file comes to
-pub file_sampled : (hash : Alg → List ℕ → List ℕ) (said : Question → Verdict) (media len store : ℕ) (file same bytes : List ℕ) (a : Answer) → same ≡ file → bytes ≡ file → len ≡ length bytes → IsLength same store → IsAnswer hash said file a
+pub file_sampled :
+    (hash : Alg → List ℕ → List ℕ) (said : Question → Verdict) (media len store : ℕ) (file same bytes : List ℕ)
+    (a : Answer)
+    → same ≡ file → bytes ≡ file → len ≡ length bytes → IsLength same store → IsAnswer hash said file a
     → IsFileSampled hash said media file (Checked (record { media = media; file = len; store = store }) a)
 file_sampled hash said media len store file same bytes a copied read counted found answer = record {
   located = found.0;

@@ -1,4 +1,4 @@
--- So many pieces come to something, and ask a list of questions.
+-- A sample of so many pieces has an outcome, and asks a list of questions.
 use Rattle.std.proofs.Common.{refl, ℕ, List, [], length}
 use Rattle.std.specs.declared.result.Result.{Result}
 use Rattle.std.specs.declared.result.Result.TheVariants.{Ok, Err}
@@ -7,9 +7,9 @@ use Rattle.c2_spec.specs.Located.{here}
 use Rattle.c2_spec.specs.declared.digest.Alg.{Alg}
 use Rattle.c2_spec.specs.declared.panel.Verdict.{Verdict}
 use Rattle.c2_rules.specs.CheckList.{check_asks, store_answer}
-use Rattle.c2_new_store_spec.specs.Fresh.{GivesDigests}
-use Rattle.c2_build.specs.Building.{Built}
-use Rattle.c2_build.specs.Meeting.{BuiltFileMeets, SomeEmbedding}
+use Rattle.c2_new_file_spec.specs.Fresh.{GivesDigests}
+use Rattle.c2_build_plain.specs.Building.{Built}
+use Rattle.c2_build_plain.specs.Meeting.{BuiltFileMeets, SomeEmbedding}
 use Rattle.c2_build_refusals.specs.declared.error.BuildError.{BuildError}
 use Rattle.c2_sample.specs.Sample.{EachSample, EachSampleAsks, IsSampleBuilt, IsSampled, SampleAsks, lengths_of, no_judges, sample_definition, sample_media, sample_message}
 use Rattle.c2_sample.specs.declared.types.Sampled.{Sampled}
@@ -23,7 +23,8 @@ pub record Laws : Type 0 where
   pub meets : BuiltFileMeets
 
 -- a build comes to something
-some_build : Laws → (hash : Alg → List ℕ → List ℕ) (said : Question → Verdict) (n : ℕ) → GivesDigests hash → (r : Result Built BuildError) → IsSampleBuilt hash n r → (s : Sampled) × IsSampled hash said n s
+some_build : Laws → (hash : Alg → List ℕ → List ℕ) (said : Question → Verdict) (n : ℕ) → GivesDigests hash
+    → (r : Result Built BuildError) → IsSampleBuilt hash n r → (s : Sampled) × IsSampled hash said n s
 some_build laws hash said n gives (Ok b) is =
     let new = laws.meets hash no_judges (sample_media n) sample_definition sample_message b gives texts_in is in
     let found = new.meets.opened in
@@ -43,22 +44,25 @@ some_build laws hash said n gives (Ok b) is =
     )
 some_build laws hash said n gives (Err e) is = (Refused e, (Err e, is, refl))
 
--- so many pieces come to something
+-- a sample of so many pieces has an outcome
 pub each_sample : Laws → EachSample
 each_sample laws hash said n gives =
-    let r = laws.embedding hash no_judges (sample_media n) sample_definition sample_message (media_bytes n) message_bytes in
+    let r =
+    laws.embedding hash no_judges (sample_media n) sample_definition sample_message (media_bytes n) message_bytes in
     some_build laws hash said n gives r.0 r.1
 
 -- a build asks a list of questions
-some_asks : Laws → (hash : Alg → List ℕ → List ℕ) (said : Question → Verdict) (n : ℕ) → GivesDigests hash → (r : Result Built BuildError) → IsSampleBuilt hash n r → (qs : List Question) × SampleAsks hash said n qs
+some_asks : Laws → (hash : Alg → List ℕ → List ℕ) (said : Question → Verdict) (n : ℕ) → GivesDigests hash
+    → (r : Result Built BuildError) → IsSampleBuilt hash n r → (qs : List Question) × SampleAsks hash said n qs
 some_asks laws hash said n gives (Ok b) is =
     let new = laws.meets hash no_judges (sample_media n) sample_definition sample_message b gives texts_in is in
     let rs = new.meets.reading.readings in
     (check_asks hash said rs, (Ok b, is, (here b.start b.len new.store, new.meets.opened, (rs, new.meets.reads.reads.each, refl))))
 some_asks laws hash said n gives (Err e) is = ([], (Err e, is, refl))
 
--- so many pieces ask a list of questions
+-- a sample of so many pieces asks a list of questions
 pub each_sample_asks : Laws → EachSampleAsks
 each_sample_asks laws hash said n gives =
-    let r = laws.embedding hash no_judges (sample_media n) sample_definition sample_message (media_bytes n) message_bytes in
+    let r =
+    laws.embedding hash no_judges (sample_media n) sample_definition sample_message (media_bytes n) message_bytes in
     some_asks laws hash said n gives r.0 r.1

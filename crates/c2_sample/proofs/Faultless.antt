@@ -8,18 +8,18 @@ use Rattle.c2_base.specs.declared.sinks.MemSink.{MemSink}
 use Rattle.c2_spec.specs.Container.{is_bmff}
 use Rattle.c2_spec.specs.Judges.Panel.{SomeRose}
 use Rattle.c2_spec.specs.declared.digest.Alg.{Alg}
-use Rattle.c2_opening.specs.Opened.{IsCause}
+use Rattle.c2_opening.specs.Opened.{IsOpeningCause}
 use Rattle.c2_opening.specs.declared.error.ValidateError.{ValidateError}
 use Rattle.c2_opening.specs.declared.error.ValidateError.TheVariants as check
-use Rattle.c2_validate.specs.Checked.{IsReadCause}
-use Rattle.c2_new_store_spec.specs.Fresh.{GivesDigests}
+use Rattle.c2_validate.specs.Checked.{IsCheckReadCause}
+use Rattle.c2_new_file_spec.specs.Fresh.{GivesDigests}
 use Rattle.c2_copying.specs.Writing.{FitsSpare, write_fault}
 use Rattle.c2_rules.specs.Asking.{IsJudgeCause}
 use Rattle.c2_build_refusals.specs.Kinds as kind
 use Rattle.c2_build_refusals.specs.Kinds.{ErrorKind, IsSourceCause, heard_of}
 use Rattle.c2_build_endings.specs.Endings.{kind_ending}
-use Rattle.c2_build.specs.Answers.{Writes, embed_effects, file_of}
-use Rattle.c2_build.specs.Meeting.{BuiltFileMeets, SomeEmbedding}
+use Rattle.c2_build_plain.specs.Answers.{Writes, embed_effects, file_of}
+use Rattle.c2_build_plain.specs.Meeting.{BuiltFileMeets, SomeEmbedding}
 use Rattle.c2_sample.specs.Sample.{IsSureFault, IsSureKind, no_judges, sample_definition, sample_message}
 use Rattle.c2_sample.proofs.Builds.{IsMade}
 use Rattle.c2_sample.proofs.MadeBytes.{message_bytes}
@@ -39,7 +39,8 @@ no_read_fault (inr (inl h)) = none_rose h
 no_read_fault (inr (inr h)) = none_rose h
 
 -- of no counts none has risen
-nobody_rose : {T : Type 0} (faults : T → ℕ) (judges : List T) (now : List ℕ) → judges ≡ [] → SomeRose (map faults judges) now → ⊥
+nobody_rose : {T : Type 0} (faults : T → ℕ) (judges : List T) (now : List ℕ) → judges ≡ []
+    → SomeRose (map faults judges) now → ⊥
 nobody_rose {T} faults judges now none h =
     let moved : SomeRose [] now = subst (λ (js : List T). SomeRose (map faults js) now) none h in
     let within : moved.0 < 0 = moved.1 in
@@ -48,7 +49,8 @@ nobody_rose {T} faults judges now none h =
 -- ---- the sink
 
 -- a sink that was never called, and that fails at no number, states its room as its spare
-room_is_spare : (s : MemSink) (room : ℕ) → sink_state s ≡ fresh_sink room 0 → (if s.fail_at == 0 then Some (vec_len s.bytes - s.used) else None) ≡ Some room
+room_is_spare : (s : MemSink) (room : ℕ) → sink_state s ≡ fresh_sink room 0
+    → (if s.fail_at == 0 then Some (vec_len s.bytes - s.used) else None) ≡ Some room
 room_is_spare s room h =
     let never : s.fail_at ≡ 0 = ap (λ state. state.fail_at) h in
     let all : vec_len s.bytes ≡ room = ap (λ state. state.room) h in
@@ -76,36 +78,43 @@ abbrev spare_of : MemSink → Option ℕ
 spare_of s = if s.fail_at == 0 then Some (vec_len s.bytes - s.used) else None
 
 -- the sink doesn't fail
-no_write_fault : (hash : Alg → List ℕ → List ℕ) (media : List ℕ) (sink : MemSink) → InMemory hash media sink → FitsSpare (Writes (IsMade hash media)) (spare_of sink) write_fault → ⊥
+no_write_fault : (hash : Alg → List ℕ → List ℕ) (media : List ℕ) (sink : MemSink) → InMemory hash media sink
+    → FitsSpare (Writes (IsMade hash media)) (spare_of sink) write_fault → ⊥
 no_write_fault hash media sink m spare =
     let r = m.comes hash no_judges media sample_definition sample_message m.bytes message_bytes in
     let less = spare m.room (room_is_spare sink m.room m.sink_is) (file_of r.0) (r.0, r.1, refl) in
-    let most = result_len m.meets hash no_judges media sample_definition sample_message r.0 m.digests texts_in m.jpeg r.1 in
+    let most =
+    result_len m.meets hash no_judges media sample_definition sample_message r.0 m.digests texts_in m.jpeg r.1 in
     omega (arith, less, most, m.holds)
 
 -- an error of it is a refusal, or memory ran out
-pub sure_kind : {T : Type 0} (faults : T → ℕ) (judges : List T) (now : List ℕ) (hash : Alg → List ℕ → List ℕ) (media : List ℕ) (sink : MemSink) (k : ErrorKind) → judges ≡ [] → InMemory hash media sink
-    → IsSourceCause embed_effects (Rose 0 0 ⊎ Rose 0 0) 0 0 k → IsJudgeCause (map faults judges) now (heard_of k) → FitsSpare (Writes (IsMade hash media)) (spare_of sink) (kind_ending k) → IsSureKind k
+pub sure_kind :
+    {T : Type 0} (faults : T → ℕ) (judges : List T) (now : List ℕ) (hash : Alg → List ℕ → List ℕ) (media : List ℕ)
+    (sink : MemSink) (k : ErrorKind)
+    → judges ≡ [] → InMemory hash media sink
+    → IsSourceCause embed_effects (Rose 0 0 ⊎ Rose 0 0) 0 0 k → IsJudgeCause (map faults judges) now (heard_of k)
+    → FitsSpare (Writes (IsMade hash media)) (spare_of sink) (kind_ending k) → IsSureKind k
 sure_kind faults judges now hash media sink kind.refusal none m c j s = inl refl
 sure_kind faults judges now hash media sink kind.message_refusal none m c j s = inl refl
 sure_kind faults judges now hash media sink kind.front_refusal none m c j s = inl refl
 sure_kind faults judges now hash media sink kind.older_refusal none m c j s = inl refl
 sure_kind faults judges now hash media sink kind.other_refusal none m c j s = inl refl
 sure_kind faults judges now hash media sink kind.read_fault none m c j s = absurd (no_read_fault c)
-sure_kind faults judges now hash media sink kind.judge_fault none m c j s = absurd (nobody_rose faults judges now none j)
+sure_kind faults judges now hash media sink kind.judge_fault none m c j s =
+    absurd (nobody_rose faults judges now none j)
 sure_kind faults judges now hash media sink kind.write_fault none m c j s = absurd (no_write_fault hash media sink m s)
 sure_kind faults judges now hash media sink kind.no_memory none m c j s = inr refl
 
 -- ---- the check
 
 -- an error of the search for a store is that memory ran out
-pub search_error : (e : ValidateError) → IsCause 0 0 e → e ≡ check.NoMemory
+pub search_error : (e : ValidateError) → IsOpeningCause 0 0 e → e ≡ check.NoMemory
 search_error check.ReadFault c = absurd (none_rose c)
 search_error check.JudgeFault c = absurd c
 search_error check.NoMemory c = refl
 
 -- an error of the check isn't a fault of the source
-pub check_error : (e : ValidateError) → IsReadCause 0 0 e → IsSureFault e
+pub check_error : (e : ValidateError) → IsCheckReadCause 0 0 e → IsSureFault e
 check_error check.ReadFault c = absurd (none_rose c)
 check_error check.JudgeFault c = tt
 check_error check.NoMemory c = tt

@@ -6,4 +6,5 @@ mod MadeBytes
 mod Making
 mod OneSample
 mod Roomy
+pub mod TheLaws
 mod WorkedDefinition

@@ -11,13 +11,15 @@ use Rattle.c2_definition.specs.DefinitionFile.{definition_in}
 use Rattle.c2_definition.specs.declared.types.Definition.{Definition}
 use Rattle.c2_definition.specs.declared.types.DefinitionField.{DefinitionField}
 use Rattle.c2_definition.specs.declared.types.Payload.TheVariants as payload
-use Rattle.c2_new_store_spec.specs.Written.{HasTexts}
+use Rattle.c2_new_file_spec.specs.Written.{HasTexts}
 use Rattle.c2_build_refusals.specs.Stages.{HasTextsIn}
 use Rattle.c2_sample.specs.Sample.{sample_definition}
 
 -- the item of the one assertion: {"actions": [{"action": "c2pa.created"}]}
 abbrev actions : List ℕ
-actions = 0xA1 ∷ 0x67 ∷ 0x61 ∷ 0x63 ∷ 0x74 ∷ 0x69 ∷ 0x6F ∷ 0x6E ∷ 0x73 ∷ 0x81 ∷ 0xA1 ∷ 0x66 ∷ 0x61 ∷ 0x63 ∷ 0x74 ∷ 0x69 ∷ 0x6F ∷ 0x6E ∷ 0x6C ∷ 0x63 ∷ 0x32 ∷ 0x70 ∷ 0x61 ∷ 0x2E ∷ 0x63 ∷ 0x72 ∷ 0x65 ∷ 0x61 ∷ 0x74 ∷ 0x65 ∷ 0x64 ∷ []
+actions =
+    0xA1 ∷ 0x67 ∷ 0x61 ∷ 0x63 ∷ 0x74 ∷ 0x69 ∷ 0x6F ∷ 0x6E ∷ 0x73 ∷ 0x81 ∷ 0xA1 ∷ 0x66 ∷ 0x61 ∷ 0x63 ∷ 0x74 ∷ 0x69 ∷ 0x6F
+    ∷ 0x6E ∷ 0x6C ∷ 0x63 ∷ 0x32 ∷ 0x70 ∷ 0x61 ∷ 0x2E ∷ 0x63 ∷ 0x72 ∷ 0x65 ∷ 0x61 ∷ 0x74 ∷ 0x65 ∷ 0x64 ∷ []
 
 -- what the file is
 abbrev defined : Definition
@@ -38,7 +40,7 @@ defined_row : definition_in true sample_definition ≡ Ok defined
 unfolding is_utf8 chars hex_on_literals uuid_on_literals serde_json_on_literals
 defined_row = refl
 
--- and else it is refused
+-- the definition is refused where its item isn't taken for one
 refused_row : is_ok (definition_in false sample_definition) ≡ false
 unfolding is_utf8 chars hex_on_literals uuid_on_literals serde_json_on_literals
 refused_row = refl
@@ -55,7 +57,7 @@ texts = record {
   redact = tt;
 }
 
--- and so are those of what the file is
+-- the texts of each definition that the file is are texts
 pub texts_in : HasTextsIn sample_definition
 texts_in d h = by h.payloads h.is
   where

@@ -11,10 +11,10 @@ use Rattle.c2_spec.specs.declared.panel.Verdict.{Verdict}
 use Rattle.c2_rules.specs.Asking.{Heard, broken, part}
 use Rattle.c2_rules.specs.Validated.{CheckAsks, IsAnswer}
 use Rattle.c2_rules.specs.declared.answer.Answer.{Answer}
-use Rattle.c2_new_store_spec.specs.Fresh.{GivesDigests}
+use Rattle.c2_new_file_spec.specs.Fresh.{GivesDigests}
 use Rattle.c2_build_refusals.specs.Kinds.{ErrorKind, judge_fault, no_memory, read_fault, write_fault}
 use Rattle.c2_build_refusals.specs.declared.error.BuildError.{BuildError}
-use Rattle.c2_build.specs.Building.{Built, IsEmbedded}
+use Rattle.c2_build_plain.specs.Building.{Built, IsEmbedded}
 use Rattle.c2_opening.specs.declared.error.ValidateError.{ValidateError}
 use Rattle.c2_opening.specs.declared.error.ValidateError.TheVariants as check
 use Rattle.c2_sample.specs.declared.building.NewFile.{NewFile}
@@ -32,7 +32,7 @@ use Rattle.c2_sample.specs.declared.types.Sampled.TheVariants.{Checked, Refused}
 abbrev pub piece_byte : ℕ → ℕ → ℕ
 piece_byte i j = (31 * i + 7 * j) % 256
 
--- its first bytes
+-- the first bytes of the piece at place `i`
 unfoldable pub piece_bytes : ℕ → ℕ → List ℕ
 piece_bytes i zero = []
 piece_bytes i (suc j) = piece_bytes i j ++ piece_byte i j ∷ []
@@ -41,7 +41,7 @@ piece_bytes i (suc j) = piece_bytes i j ++ piece_byte i j ∷ []
 abbrev pub piece : ℕ → List ℕ
 piece i = 0xFF ∷ (0xFE ∷ (0x03 ∷ (0xEA ∷ piece_bytes i PIECE_BYTES)))
 
--- so many pieces
+-- so many pieces one after the other
 unfoldable pub pieces : ℕ → List ℕ
 pieces zero = []
 pieces (suc n) = pieces n ++ piece n
@@ -122,21 +122,21 @@ sample_line n l =
 
 -- ---- laws
 
--- so many pieces come to one thing
+-- a sample of so many pieces has one outcome at most
 abbrev pub OneSample : Type 0
 OneSample = (hash : Alg → List ℕ → List ℕ) (said : Question → Verdict) (n : ℕ) (s t : Sampled)
     → IsSampled hash said n s → IsSampled hash said n t → s ≡ t
 
--- and ask one list of questions
+-- a sample of so many pieces asks one list of questions at most
 abbrev pub OneSampleAsks : Type 0
 OneSampleAsks = (hash : Alg → List ℕ → List ℕ) (said : Question → Verdict) (n : ℕ) (ps qs : List Question)
     → SampleAsks hash said n ps → SampleAsks hash said n qs → ps ≡ qs
 
--- so many pieces come to something
+-- a sample of so many pieces has an outcome, where the hash gives digests
 abbrev pub EachSample : Type 0
 EachSample = (hash : Alg → List ℕ → List ℕ) (said : Question → Verdict) (n : ℕ) → GivesDigests hash → (s : Sampled) × IsSampled hash said n s
 
--- and ask a list of questions
+-- a sample of so many pieces asks a list of questions, where the hash gives digests
 abbrev pub EachSampleAsks : Type 0
 EachSampleAsks = (hash : Alg → List ℕ → List ℕ) (said : Question → Verdict) (n : ℕ) → GivesDigests hash → (qs : List Question) × SampleAsks hash said n qs
 

@@ -7,10 +7,7 @@ ghost use Rattle.c2_sample.specs.Sample.{IsNewFile, IsSureKind, is_refusal};
 use crate::inputs::{sample_definition, sample_message};
 use c2_base::limits::MAX_STORE_LEN;
 use c2_base::{Blob, MemSink, NoMemory, SureSource};
-use c2_build::{
-    BuildError, a_build_comes_to_one_thing, a_new_file_meets_the_rules,
-    each_build_comes_to_something, embed,
-};
+use c2_build_plain::{BuildError, each_build_comes_to_something, embed};
 use c2_hash::Hashing;
 use c2_jpegseg::segments_len;
 use c2_judge::Judge;
@@ -33,10 +30,7 @@ pub fn build<H: Hashing>(alloc: Global, hashing: &H, media: Blob) -> Result<NewF
     requires small { length media < 2 ^ 62 }
     ensures { IfOk result (IsNewFile H.digest_of media) }
 {
-    // Only the prover needs these laws.
-    a_build_comes_to_one_thing();
     each_build_comes_to_something();
-    a_new_file_meets_the_rules();
     let room = media
         .as_slice()
         .len()
@@ -77,29 +71,11 @@ fn refused(error: BuildError) -> Result<NewFile, NoMemory>
 fn is_refusal(error: &BuildError) -> bool
     ensures { result ≡ is_refusal (kind_of error.now) }
 {
-    match error {
+    !matches!(
+        error,
         BuildError::ReadFault
-        | BuildError::JudgeFault
-        | BuildError::WriteFault
-        | BuildError::NoMemory => false,
-        BuildError::MediaRefused(_, _)
-        | BuildError::BadDefinition(_)
-        | BuildError::BadSignature(_)
-        | BuildError::NotBmff
-        | BuildError::HasStore
-        | BuildError::ParentFails(_, _)
-        | BuildError::OtherRefused(_)
-        | BuildError::LabelClash(_)
-        | BuildError::LabelTaken(_)
-        | BuildError::RedactionRefused(_, _)
-        | BuildError::OpenBox(_)
-        | BuildError::NoInstance
-        | BuildError::OffsetTable(_)
-        | BuildError::BadTree(_)
-        | BuildError::BadTable(_)
-        | BuildError::TooManyManifests(_)
-        | BuildError::StoreTooLarge(_)
-        | BuildError::Overflow(_)
-        | BuildError::ReserveTooSmall(_) => true,
-    }
+            | BuildError::JudgeFault
+            | BuildError::WriteFault
+            | BuildError::NoMemory
+    )
 }

@@ -11,7 +11,6 @@ use crate::building::{NewFile, build};
 use crate::media::sample_media;
 use crate::{Lengths, SampleError, Sampled};
 use c2_base::{Blob, NoMemory, SureSource};
-use c2_build::a_build_comes_to_one_thing;
 use c2_hash::Hashing;
 use c2_judge::Judge;
 use c2_validate::types::Opened;
@@ -35,8 +34,6 @@ pub fn sample<H: Hashing>(
     ensures panel { HearsPanel says asked_times judge_faults sample_heard
         (λ said. SampleAsks H.digest_of said count) judges.old judges.new result }
 {
-    // Only the prover needs this law.
-    a_build_comes_to_one_thing();
     let Ok(media) = sample_media(alloc, count) else {
         return Err(SampleError::NoMemory);
     };
@@ -91,7 +88,7 @@ fn store_len(alloc: Global, source: &mut SureSource) -> Result<u64, NoMemory>
     }
 }
 
-// That memory ran out, which is what the error of a search is: a source in memory doesn't fail.
+// The error of a search for a store as one of a sample: that memory ran out, since a source in memory doesn't fail.
 fn out_of_memory(_error: ValidateError) -> NoMemory
     requires { _error ≡ check.NoMemory }
 {

@@ -1,6 +1,6 @@
 // What a sample comes to.
 
-use c2_build::BuildError;
+use c2_build_plain::BuildError;
 use c2_rules::Answer;
 
 /// How many bytes the files have.

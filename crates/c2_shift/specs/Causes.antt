@@ -21,10 +21,10 @@ IsCheckCause len before now ReadFault = Rose before now
 IsCheckCause len before now _ = ⊥
 
 -- this holds, unless the source failed or memory ran out
-abbrev pub OrOutside : ShiftError → Type 0 → Type 0
-OrOutside ReadFault claim = ⊤
-OrOutside NoMemory claim = ⊤
-OrOutside _ claim = claim
+abbrev pub OrShiftFault : ShiftError → Type 0 → Type 0
+OrShiftFault ReadFault claim = ⊤
+OrShiftFault NoMemory claim = ⊤
+OrShiftFault _ claim = claim
 
 -- of these places this is the first
 pub record IsFirstPlace (places : List ℕ) (at : ℕ) : Type 0 where

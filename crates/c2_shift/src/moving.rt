@@ -8,7 +8,7 @@ ghost use Rattle.c2_shift.specs.Fitting.{is_too_large};
 pub struct Shift {
     /// The first place that is moved.
     pub from: u64,
-    /// By how many bytes.
+    /// By how many bytes a place is moved.
     pub by: u64,
 }
 

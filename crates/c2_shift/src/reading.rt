@@ -7,7 +7,7 @@ ghost use Rattle.c2_base.specs.Source.{ReadsSource, StaysSource};
 ghost use Rattle.c2_bmff_rows.specs.Rows.{IsRowWithin};
 ghost use Rattle.c2_bmff_chunks.specs.Refusals.{IsFirstRefusal, sibling_refusals};
 ghost use Rattle.c2_bmff_chunks.specs.Tables.{StandApart, is_table_kind, tables_among};
-ghost use Rattle.c2_shift.specs.Causes.{IsTablesCause, OrOutside};
+ghost use Rattle.c2_shift.specs.Causes.{IsTablesCause, OrShiftFault};
 ghost use Rattle.c2_shift.specs.Walking.{FillsBox, IsTableOr, LieIn, StaysApart};
 
 use crate::fields::{fields_len, number_in};
@@ -72,7 +72,7 @@ fn add_table<S: Source>(
         (sibling_refusals file row ≡ [])
         × (tables.new.items ≡ tables.old.items ++ tables_among file (row ∷ [])))) }
     ensures refused { IfErr result (λ e. ForSome (S.known source.old) (λ file.
-        OrOutside e (IsFirstRefusal (sibling_refusals file row) e))) }
+        OrShiftFault e (IsFirstRefusal (sibling_refusals file row) e))) }
     ensures apart { OnOk result ((low : ℕ) → StandApart 0 low tables.old.items
         → low ≤ row.start → StandApart 0 (row.start + row.length) tables.new.items) }
     ensures reads { ReadsSource S.len S.known S.faults (IsTablesCause (S.len source.old))
@@ -105,7 +105,7 @@ pub(crate) fn add_tables<S: Source>(
         (flat_map (sibling_refusals file) rows.now ≡ [])
         × (tables.new.items ≡ tables.old.items ++ tables_among file rows.now))) }
     ensures refused { IfErr result (λ e. ForSome (S.known source.old) (λ file.
-        OrOutside e (IsFirstRefusal (flat_map (sibling_refusals file) rows.now) e))) }
+        OrShiftFault e (IsFirstRefusal (flat_map (sibling_refusals file) rows.now) e))) }
     ensures apart { OnOk result (StaysApart rows.now tables.old.items tables.new.items) }
     ensures reads { ReadsSource S.len S.known S.faults (IsTablesCause (S.len source.old))
         source.old source.new result }

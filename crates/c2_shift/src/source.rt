@@ -21,7 +21,7 @@ pub trait NamedTables {
     // the source's length
     ghost len: { ℕ };
 
-    // its bytes, where they are known
+    // the source's bytes, where they are known
     ghost known: { Option (List ℕ) };
 }
 
@@ -40,7 +40,7 @@ impl NamedTables for Brand {
 pub struct Shifted<'m, S: Source, K: NamedTables> {
     /// The file as it is.
     pub media: &'m mut S,
-    /// Its tables.
+    /// The chunk tables of the file.
     pub tables: &'m Tables,
     /// Where the places begin that are moved.
     pub from: u64,

@@ -7,7 +7,7 @@ ghost use Rattle.c2_bmff_boxes.specs.Roots.{FillSource};
 ghost use Rattle.c2_bmff_chunks.specs.Refusals.{IsFirstRefusal, is_other_table, refusals_below, root_refusals, shift_refusals};
 ghost use Rattle.c2_bmff_chunks.specs.Tables.{StandApart, chunk_tables, inner, tables_below};
 ghost use Rattle.c2_bmff_chunks.specs.declared.table.ShiftError.TheVariants.{BadTree};
-ghost use Rattle.c2_shift.specs.Causes.{IsTablesCause, OrOutside};
+ghost use Rattle.c2_shift.specs.Causes.{IsTablesCause, OrShiftFault};
 ghost use Rattle.c2_shift.specs.Walking.{IsFirstKind, LieIn, Skips, StaysApart};
 
 use crate::reading::add_tables;
@@ -75,7 +75,7 @@ fn inner_boxes<S: Source>(alloc: Global, source: &mut S, row: RootBox) -> Result
     ensures found { IfOk result
         (λ l. ForSome (S.known source.old) (λ file. inner file row ≡ Some l)) }
     ensures refused { IfErr result (λ e. ForSome (S.known source.old) (λ file.
-        OrOutside e ((inner file row ≡ None) × (e ≡ BadTree row.start)))) }
+        OrShiftFault e ((inner file row ≡ None) × (e ≡ BadTree row.start)))) }
     ensures fill { IfOk result
         (FillSource (row.start + row.length) (row.start + row.header)) }
     ensures reads { ReadsSource S.len S.known S.faults (IsTablesCause (S.len source.old))
@@ -119,7 +119,7 @@ fn visit<S: Source>(
         (refusals_below file kinds.now rows.now ≡ [])
         × (tables.new.items ≡ tables.old.items ++ tables_below file kinds.now rows.now))) }
     ensures refused { IfErr result (λ e. ForSome (S.known source.old) (λ file.
-        OrOutside e (IsFirstRefusal (refusals_below file kinds.now rows.now) e))) }
+        OrShiftFault e (IsFirstRefusal (refusals_below file kinds.now rows.now) e))) }
     ensures apart { OnOk result (StaysApart rows.now tables.old.items tables.new.items) }
     ensures reads { ReadsSource S.len S.known S.faults (IsTablesCause (S.len source.old))
         source.old source.new result }
@@ -154,7 +154,7 @@ pub fn tables<S: Source>(alloc: Global, source: &mut S, roots: &Roots) -> Result
     ensures found { IfOk result (λ t. ForSome (S.known source.old) (λ file.
         (shift_refusals file roots.now ≡ []) × (t ≡ chunk_tables file roots.now))) }
     ensures refused { IfErr result (λ e. ForSome (S.known source.old) (λ file.
-        OrOutside e (IsFirstRefusal (shift_refusals file roots.now) e))) }
+        OrShiftFault e (IsFirstRefusal (shift_refusals file roots.now) e))) }
     ensures inside { IfOk result (StandApart 0 (S.len source.old)) }
     ensures reads { ReadsSource S.len S.known S.faults (IsTablesCause (S.len source.old))
         source.old source.new result }

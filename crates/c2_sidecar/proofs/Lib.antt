@@ -1,3 +1,4 @@
 mod Answering
 mod Extraction
 mod Locating
+pub mod TheLaws

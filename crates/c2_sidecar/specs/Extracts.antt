@@ -43,12 +43,12 @@ ending_of (Err WriteFault) = write_fault
 ending_of (Err NoMemory) = untouched
 
 -- what an error of `extract` says of the source, by the source's count of faults before and after
-abbrev pub IsReadCause : ℕ → ℕ → ExtractError → Type 0
-IsReadCause before now ReadFault = Rose before now
-IsReadCause before now WriteFault = now ≡ before
-IsReadCause before now NoMemory = ⊤
+abbrev pub IsExtractReadCause : ℕ → ℕ → ExtractError → Type 0
+IsExtractReadCause before now ReadFault = Rose before now
+IsExtractReadCause before now WriteFault = now ≡ before
+IsExtractReadCause before now NoMemory = ⊤
 
 -- what an error of `extract` says of the sink, by the sink's count of faults before and after
-abbrev pub IsWriteCause : ℕ → ℕ → ExtractError → Type 0
-IsWriteCause before now WriteFault = Rose before now
-IsWriteCause before now _ = now ≡ before
+abbrev pub IsExtractWriteCause : ℕ → ℕ → ExtractError → Type 0
+IsExtractWriteCause before now WriteFault = Rose before now
+IsExtractWriteCause before now _ = now ≡ before

@@ -13,7 +13,7 @@ ghost use Rattle.c2_sidecar.specs.Stages.{IsFileRefusedBy};
 
 use c2_base::limits::MAX_STORE_LEN;
 use c2_base::{MediaError, ReadAllError, Source, read_all};
-use c2_container::{Contained, Container, each_media_file_is_located, locate};
+use c2_container::{Contained, Container, locate};
 use c2_hash::Hashing;
 use c2_judge::Judge;
 use c2_rules::Answer;
@@ -116,8 +116,6 @@ pub fn validate_external<S: Source, T: Source, H: Hashing>(
         (AsksWhereDue H.digest_of (S.known source.old) (T.known store.old))
         judges.old judges.new result }
 {
-    // Only the prover needs these laws.
-    each_media_file_is_located();
     each_file_has_an_external_check();
     let contained = match locate(alloc, source) {
         Ok(contained) => contained,

@@ -4,12 +4,12 @@ ghost use Rattle.std.specs.Option.{ForSome};
 ghost use Rattle.c2_base.specs.Sink.{WritesSink, unsaid};
 ghost use Rattle.c2_base.specs.Source.{ReadsSource};
 ghost use Rattle.c2_copying.specs.Writing.{EndsSink, WritesFile};
-ghost use Rattle.c2_sidecar.specs.Extracts.{IsAnswerOf, IsExtracted, IsReadCause, IsWriteCause, Writes, ending_of};
+ghost use Rattle.c2_sidecar.specs.Extracts.{IsAnswerOf, IsExtracted, IsExtractReadCause, IsExtractWriteCause, Writes, ending_of};
 ghost use Rattle.c2_sidecar.specs.Stages.{IsFailure, IsRefusedBy, IsStored};
 
 use crate::{ExtractError, Extracted};
 use c2_base::{Failed, Found, MediaError, Sink, Source, write_all};
-use c2_container::{Contained, each_media_file_is_located, locate};
+use c2_container::{Contained, locate};
 use c2_copying::steps_follow;
 use c2_spec::Refusal;
 use std::alloc::Global;
@@ -21,7 +21,6 @@ fn write_store<K: Sink>(sink: &mut K, store: &[u8]) -> Result<(), Failed>
     ensures unfinished { OnErr result (K.finished sink.new ≡ K.finished sink.old) }
     ensures writes { WritesSink K.written unsaid K.faults IsFailure sink.old sink.new result }
 {
-    // Only the prover needs this law.
     steps_follow::<K>();
     // Matched and not handed up by `?`, here and below: each way out has clauses of its own.
     match write_all(sink, store) {
@@ -81,11 +80,11 @@ pub fn extract<S: Source, K: Sink>(
     // These hold of every source.
     ensures within { IfOk result (IsAnswerOf (S.len source.old)) }
     ensures ends { EndsSink K.finished out.old out.new (ending_of result) }
-    ensures reads { ReadsSource S.len S.known S.faults IsReadCause source.old source.new result }
-    ensures writes { WritesSink K.written unsaid K.faults IsWriteCause out.old out.new result }
+    ensures reads { ReadsSource S.len S.known S.faults IsExtractReadCause
+        source.old source.new result }
+    ensures writes { WritesSink K.written unsaid K.faults IsExtractWriteCause
+        out.old out.new result }
 {
-    // Only the prover needs these laws.
-    each_media_file_is_located();
     steps_follow::<K>();
     let contained = match locate(alloc, source) {
         Ok(contained) => contained,

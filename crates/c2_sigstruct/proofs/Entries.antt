@@ -20,7 +20,8 @@ then_then no_pairs qs rs = refl
 then_then (pair k v ps) qs rs = ap (pair k v) (then_then ps qs rs)
 
 -- one more pair of a list stands behind the others
-pub view_push : (old : List (Cbor × Cbor)) (k v : Cbor) → pairs_view (old ++ (k, v) ∷ []) ≡ pairs_then (pairs_view old) (pair (view k) (view v) no_pairs)
+pub view_push : (old : List (Cbor × Cbor)) (k v : Cbor)
+    → pairs_view (old ++ (k, v) ∷ []) ≡ pairs_then (pairs_view old) (pair (view k) (view v) no_pairs)
 view_push [] k v = refl
 view_push (p ∷ old) k v = ap (pair (view p.0) (view p.1)) (view_push old k v)
 
@@ -30,10 +31,12 @@ then_count no_pairs qs = omega arith
 then_count (pair k v ps) qs = omega (arith, then_count ps qs)
 
 -- how many bytes they have
-pub then_bytes : (ps qs : Pairs) → length (preferred_pairs (pairs_then ps qs)) ≡ length (preferred_pairs ps) + length (preferred_pairs qs)
+pub then_bytes : (ps qs : Pairs)
+    → length (preferred_pairs (pairs_then ps qs)) ≡ length (preferred_pairs ps) + length (preferred_pairs qs)
 then_bytes no_pairs qs = omega arith
 then_bytes (pair k v ps) qs =
-    omega (arith, then_bytes ps qs, length-append (preferred k ++ preferred v) (preferred_pairs (pairs_then ps qs)), length-append (preferred k ++ preferred v) (preferred_pairs ps))
+    omega
+    (arith, then_bytes ps qs, length-append (preferred k ++ preferred v) (preferred_pairs (pairs_then ps qs)), length-append (preferred k ++ preferred v) (preferred_pairs ps))
 
 -- how deep they are
 pub then_depth : (ps qs : Pairs) (d : ℕ) → pairs_depth ps ≤ d → pairs_depth qs ≤ d → pairs_depth (pairs_then ps qs) ≤ d
@@ -62,12 +65,14 @@ abbrev pub AreApart : Pairs → Pairs → Type 0
 AreApart no_pairs qs = Unit {0}
 AreApart (pair k v ps) qs = IsNew k qs × DiffersFrom k qs × AreApart ps qs
 
--- then distinct keys stay so
-pub then_distinct : (ps qs : Pairs) → PairsHaveDistinctKeys ps → PairsHaveDistinctKeys qs → AreApart ps qs → PairsHaveDistinctKeys (pairs_then ps qs)
+-- pairs with distinct keys, whose keys are apart, have distinct keys together
+pub then_distinct : (ps qs : Pairs) → PairsHaveDistinctKeys ps → PairsHaveDistinctKeys qs → AreApart ps qs
+    → PairsHaveDistinctKeys (pairs_then ps qs)
 then_distinct no_pairs qs g h a = h
 then_distinct (pair k v ps) qs g h a = (g.0, g.1, then_new k ps qs g.2 a.0, then_distinct ps qs g.3 h a.2)
 
--- and plain keys stay so
-pub then_plain : (ps qs : Pairs) → PairsHavePlainKeys ps → PairsHavePlainKeys qs → AreApart ps qs → PairsHavePlainKeys (pairs_then ps qs)
+-- pairs with plain keys, whose keys are apart, have plain keys together
+pub then_plain : (ps qs : Pairs) → PairsHavePlainKeys ps → PairsHavePlainKeys qs → AreApart ps qs
+    → PairsHavePlainKeys (pairs_then ps qs)
 then_plain no_pairs qs g h a = h
 then_plain (pair k v ps) qs g h a = (g.0, g.1, then_differs k ps qs g.2 a.1, then_plain ps qs g.3 h a.2)

@@ -1,4 +1,5 @@
 -- A message that some bytes spell, with more entries in its header, is spelled by bytes that are hardly longer.
+use Rattle.c2_cbor_spec.proofs.TheLaws.{round_trip}
 use Rattle.std.proofs.Common.{◌≡◌, ◌⊎◌, inl, inr, ℕ, ◌+◌, ◌^◌, ◌<◌, ◌≤◌, Bool, true, ◌&&◌, List, [], ◌∷◌, ◌++◌, length, replicate, codes, Option, Some, None, refl, sym, ap, subst, ◌∙◌, arith, lit<, lit≤}
 use Rattle.std.proofs.lemmas.List.{length-append, append_assoc, length-replicate}
 use Rattle.std.specs.Int.{w64, to_be_bytes}
@@ -8,10 +9,8 @@ use Rattle.std.proofs.lemmas.Bool.{and_parts, ltb-true}
 use Rattle.std.proofs.lemmas.Str.{IsUtf8-from_ascii, is_utf8-from_IsUtf8}
 use Rattle.std.proofs.lemmas.Str.Ascii.{IsAscii-nil, IsAscii-cons}
 use Rattle.c2_spec.specs.Cbor.Item.{Item, bytes, text, list, dict, tag, simple, no_items, item, Pairs, no_pairs, pair, pairs_len}
-use Rattle.c2_spec.specs.Cbor.Deterministic.{shortest_head, preferred, preferred_pairs, deterministic, sorted}
-use Rattle.c2_spec.specs.Cbor.Plain.{IsPlain}
+use Rattle.c2_spec.specs.Cbor.Deterministic.{shortest_head, preferred, preferred_pairs}
 use Rattle.c2_spec.specs.Cbor.Spelling.{direct, eight, IsHead, InBrackets, Spells, SpellItems, SpellPairs}
-use Rattle.c2_spec.specs.Cbor.Answers.{BeginsWith}
 use Rattle.c2_spec.specs.C2pa.Sign1.{SignParts, message_list, SpellsMessage}
 use Rattle.c2_spec.specs.C2pa.Message.{tagged_message, pairs_then, padded, padded_bytes, padded_read, CanBePadded}
 use Rattle.c2_pad.specs.declared.types.Fill.{Fill}
@@ -26,7 +25,8 @@ Short P n = (t : List ℕ) × P t × (length t ≤ n)
 -- ---- entries
 
 -- pairs behind others
-pairs_spelled : (ps qs : Pairs) (x y : List ℕ) → SpellPairs ps x → SpellPairs qs y → SpellPairs (pairs_then ps qs) (x ++ y)
+pairs_spelled : (ps qs : Pairs) (x y : List ℕ) → SpellPairs ps x → SpellPairs qs y
+    → SpellPairs (pairs_then ps qs) (x ++ y)
 pairs_spelled no_pairs qs x y e q = subst (SpellPairs qs) (ap (λ z. z ++ y) (sym e)) q
 pairs_spelled (pair k v ps) qs x y (a, b, c, p, w, r, e) q =
     (a, b, c ++ y, p, w, pairs_spelled ps qs c y r q, ap (λ z. z ++ y) e ∙ append_assoc a (b ++ c) y ∙ ap (λ z. a ++ z) (append_assoc b c y))
@@ -42,7 +42,7 @@ unfolding is_ascii
 ascii [] h = IsAscii-nil
 ascii (b ∷ bs) h = let both = and_parts (nat_lt b 128) (is_ascii bs) h in IsAscii-cons b bs (ltb-true b 128 both.0) (ascii bs both.1)
 
--- and so they are UTF-8
+-- bytes that pass as ASCII are UTF-8
 text_ok : (bs : List ℕ) → is_ascii bs ≡ true → is_utf8 bs ≡ true
 text_ok bs h = is_utf8-from_IsUtf8 bs (IsUtf8-from_ascii bs (ascii bs h))
 
@@ -51,14 +51,16 @@ pad_spelled : Spells (text (codes "pad")) (99 ∷ codes "pad")
 unfolding is_ascii
 pad_spelled = inl (99 ∷ [], (direct, lit< tt, refl), text_ok (codes "pad") refl, refl)
 
--- the other key
+-- the key `pad2` of padding
 pad2_spelled : Spells (text (codes "pad2")) (100 ∷ codes "pad2")
 unfolding is_ascii
 pad2_spelled = inl (100 ∷ [], (direct, lit< tt, refl), text_ok (codes "pad2") refl, refl)
 
 -- so many zero bytes, with the widest head
 zeros_spelled : (n : ℕ) → n < 2 ^ 64 → Spells (bytes (replicate n 0)) ((91 ∷ to_be_bytes w64 n) ++ replicate n 0)
-zeros_spelled n lt = inl (91 ∷ to_be_bytes w64 n, subst (λ k. IsHead 2 k (91 ∷ to_be_bytes w64 n)) (sym (length-replicate n 0)) (eight, lt, refl), refl, refl)
+zeros_spelled n lt =
+    inl
+    (91 ∷ to_be_bytes w64 n, subst (λ k. IsHead 2 k (91 ∷ to_be_bytes w64 n)) (sym (length-replicate n 0)) (eight, lt, refl), refl, refl)
 
 -- how many zero bytes an entry has
 count : Option ℕ → ℕ
@@ -66,7 +68,8 @@ count None = 0
 count (Some n) = n
 
 -- an entry of zero bytes before others
-entry_spelled : (key h : List ℕ) (o : Option ℕ) (qs : Pairs) (m : ℕ) → Spells (text key) h → count o < 2 ^ 64 → Short (SpellPairs qs) m
+entry_spelled : (key h : List ℕ) (o : Option ℕ) (qs : Pairs) (m : ℕ) → Spells (text key) h → count o < 2 ^ 64
+    → Short (SpellPairs qs) m
     → Short (SpellPairs (zeros_before key o qs)) (length h + 9 + count o + m)
 unfolding count
 entry_spelled key h None qs m k lt (t, p, short) = (t, p, omega (arith, short))
@@ -78,7 +81,8 @@ entry_spelled key h (Some n) qs m k lt (t, p, short) =
     )
 
 -- written, it is no shorter than its zero bytes and the others
-entry_cost : (key : List ℕ) (o : Option ℕ) (qs : Pairs) → count o + length (preferred_pairs qs) ≤ length (preferred_pairs (zeros_before key o qs))
+entry_cost : (key : List ℕ) (o : Option ℕ) (qs : Pairs)
+    → count o + length (preferred_pairs qs) ≤ length (preferred_pairs (zeros_before key o qs))
 unfolding count
 entry_cost key None qs = omega arith
 entry_cost key (Some n) qs =
@@ -91,13 +95,16 @@ entry_cost key (Some n) qs =
     )
 
 -- the entries of padding
-entries_spelled : (o q : Option ℕ) → length (preferred_pairs (entries o q)) < 2 ^ 62 → Short (SpellPairs (entries o q)) (27 + length (preferred_pairs (entries o q)))
+entries_spelled : (o q : Option ℕ) → length (preferred_pairs (entries o q)) < 2 ^ 62
+    → Short (SpellPairs (entries o q)) (27 + length (preferred_pairs (entries o q)))
 unfolding entries
 entries_spelled o q lt =
     let second : Pairs = zeros_before (codes "pad2") q no_pairs in
     let inner = entry_cost (codes "pad2") q no_pairs in
     let outer = entry_cost (codes "pad") o second in
-    let behind = entry_spelled (codes "pad2") (100 ∷ codes "pad2") q no_pairs 0 pad2_spelled (omega (arith, inner, outer, lt)) ([], refl, lit≤ tt) in
+    let behind =
+    entry_spelled (codes "pad2") (100 ∷ codes "pad2") q no_pairs 0 pad2_spelled (omega (arith, inner, outer, lt))
+    ([], refl, lit≤ tt) in
     let all = entry_spelled (codes "pad") (99 ∷ codes "pad") o second _ pad_spelled (omega (arith, outer, lt)) behind in
     (all.0, all.1, omega (arith, all.2, inner, outer))
 
@@ -109,7 +116,8 @@ inside m n P s (inl (h, t, head, p, e)) = (t, p, omega (arith, ap length e, leng
 inside m n P s (inr (t, p, e)) = (t, p, omega (arith, ap length e, length-append t (255 ∷ [])))
 
 -- a map of few pairs, with more behind them
-map_spelled : (ps qs : Pairs) (s : List ℕ) (m : ℕ) → pairs_len ps + pairs_len qs < 24 → Spells (dict ps) s → Short (SpellPairs qs) m
+map_spelled : (ps qs : Pairs) (s : List ℕ) (m : ℕ) → pairs_len ps + pairs_len qs < 24 → Spells (dict ps) s
+    → Short (SpellPairs qs) m
     → Short (Spells (dict (pairs_then ps qs))) (1 + length s + m)
 map_spelled ps qs s m few own (y, q, short) =
     let old = inside 5 (pairs_len ps) (SpellPairs ps) s own in (
@@ -119,14 +127,19 @@ map_spelled ps qs s m few own (y, q, short) =
     )
 
 -- the list of a message, with more entries in its map
-list_spelled : (p : SignParts) (ps qs : Pairs) (s : List ℕ) (m : ℕ) → pairs_len ps + pairs_len qs < 24 → Spells (message_list (with_map p ps)) s → Short (SpellPairs qs) m
+list_spelled : (p : SignParts) (ps qs : Pairs) (s : List ℕ) (m : ℕ) → pairs_len ps + pairs_len qs < 24
+    → Spells (message_list (with_map p ps)) s → Short (SpellPairs qs) m
     → Short (Spells (message_list (with_map p (pairs_then ps qs)))) (2 + length s + m)
 unfolding with_map
 list_spelled p ps qs s m few own more =
-    let old = inside 4 4 (SpellItems (item (bytes p.protected) (item (dict ps) (item (simple 22) (item (bytes p.signature) no_items))))) s own in
+    let old =
+    inside 4 4
+    (SpellItems (item (bytes p.protected) (item (dict ps) (item (simple 22) (item (bytes p.signature) no_items)))))
+    s own in
     by_items old.0 old.2 old.1
   where
-    by_items : (t : List ℕ) → length t ≤ length s → SpellItems (item (bytes p.protected) (item (dict ps) (item (simple 22) (item (bytes p.signature) no_items)))) t
+    by_items : (t : List ℕ) → length t ≤ length s
+        → SpellItems (item (bytes p.protected) (item (dict ps) (item (simple 22) (item (bytes p.signature) no_items)))) t
         → Short (Spells (list (item (bytes p.protected) (item (dict (pairs_then ps qs)) (item (simple 22) (item (bytes p.signature) no_items)))))) (2 + length s + m)
     by_items t lt (x, y, first, (u, w, map, rest, f), e) =
         let new = map_spelled ps qs u m few map more in (
@@ -139,32 +152,35 @@ list_spelled p ps qs s m few own more =
 list_of : (p : SignParts) (s : List ℕ) → SpellsMessage s p → Short (Spells (message_list p)) (length s)
 list_of p s read = by_form read.message read.spelled read.is.form
   where
-    by_form : (v : Item) → Spells v s → (v ≡ message_list p) ⊎ (v ≡ tag 18 (message_list p)) → Short (Spells (message_list p)) (length s)
+    by_form : (v : Item) → Spells v s → (v ≡ message_list p) ⊎ (v ≡ tag 18 (message_list p))
+        → Short (Spells (message_list p)) (length s)
     by_form v own (inl e) = (s, subst (λ w. Spells w s) e own, omega arith)
     by_form v own (inr e) = by_tag (subst (λ w. Spells w s) e own)
       where
         by_tag : Spells (tag 18 (message_list p)) s → Short (Spells (message_list p)) (length s)
         by_tag (h, t, head, q, f) = (t, q, omega (arith, ap length f, length-append h t))
 
--- what the deterministic bytes of a plain item that some bytes spell are read as
-abbrev pub RoundTrips : Type 0
-RoundTrips = (v : Item) (s r : List ℕ) → Spells v s → length s < 2 ^ 64 → IsPlain v → BeginsWith (deterministic v ++ r) (sorted v) (length (deterministic v))
-
 -- a message of this map is read with its fill
-read_map : RoundTrips → (p : SignParts) (ps : Pairs) (f : Fill) (s : List ℕ) → CanBePadded (with_map p ps) ps → SpellsMessage s (with_map p ps) → length s + fill_cost f < 2 ^ 62
+read_map : (p : SignParts) (ps : Pairs) (f : Fill) (s : List ℕ) → CanBePadded (with_map p ps) ps
+    → SpellsMessage s (with_map p ps) → length s + fill_cost f < 2 ^ 62
     → SpellsMessage (padded_bytes (with_map p ps) (fill_pairs f)) (padded_read (with_map p ps) (fill_pairs f))
 unfolding with_map entries
-read_map trips p ps f s can read short =
+read_map p ps f s can read short =
     let two : pairs_len (fill_pairs f) ≤ 2 = entries_count f.pad f.pad2 in
     let old = list_of (with_map p ps) s read in
-    let new = list_spelled p ps (fill_pairs f) old.0 _ (omega (arith, two, can.few)) old.1 (entries_spelled f.pad f.pad2 (omega (arith, short))) in
-    let whole : Spells (tagged_message (padded (with_map p ps) (fill_pairs f))) (210 ∷ new.0) = (210 ∷ [], new.0, (direct, lit< tt, refl), new.1, refl) in
+    let new =
+    list_spelled p ps (fill_pairs f) old.0 _ (omega (arith, two, can.few)) old.1
+    (entries_spelled f.pad f.pad2 (omega (arith, short))) in
+    let whole : Spells (tagged_message (padded (with_map p ps) (fill_pairs f))) (210 ∷ new.0) =
+    (210 ∷ [], new.0, (direct, lit< tt, refl), new.1, refl) in
     read_padded (with_map p ps) ps f (padded_bytes (with_map p ps) (fill_pairs f)) can
-    (trips (tagged_message (padded (with_map p ps) (fill_pairs f))) (210 ∷ new.0) [] whole (omega (arith, old.2, new.2, short)) (padded_plain (with_map p ps) ps f can))
+    (round_trip (tagged_message (padded (with_map p ps) (fill_pairs f))) (210 ∷ new.0) [] whole (omega (arith, old.2, new.2, short)) (padded_plain (with_map p ps) ps f can))
 
--- so it is with each message that can be padded
-pub padded_is_read : RoundTrips → (p : SignParts) (ps : Pairs) (f : Fill) (s : List ℕ) → CanBePadded p ps → SpellsMessage s p → length s + fill_cost f < 2 ^ 62
+-- each message that can be padded is read with its fill
+pub padded_is_read : (p : SignParts) (ps : Pairs) (f : Fill) (s : List ℕ) → CanBePadded p ps → SpellsMessage s p
+    → length s + fill_cost f < 2 ^ 62
     → SpellsMessage (padded_bytes p (fill_pairs f)) (padded_read p (fill_pairs f))
-padded_is_read trips p ps f s can read short =
+padded_is_read p ps f s can read short =
     let is : p ≡ with_map p ps = is_with_map p ps can.map in
-    subst (λ q. SpellsMessage (padded_bytes q (fill_pairs f)) (padded_read q (fill_pairs f))) (sym is) (read_map trips p ps f s (subst (λ q. CanBePadded q ps) is can) (subst (SpellsMessage s) is read) short)
+    subst (λ q. SpellsMessage (padded_bytes q (fill_pairs f)) (padded_read q (fill_pairs f))) (sym is)
+    (read_map p ps f s (subst (λ q. CanBePadded q ps) is can) (subst (SpellsMessage s) is read) short)

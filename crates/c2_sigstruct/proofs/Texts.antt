@@ -33,7 +33,8 @@ unfolding shortest_head
 text_first t short = rw (lt-ltb (length t) 24 short)
 
 -- no head of another major type begins as a short text does
-other_head : (m n l : ℕ) (more : List ℕ) (t : List ℕ) → l < 24 → (m ≡ 3 → ⊥) → shortest_head m n ++ more ≡ (96 + l) ∷ t → ⊥
+other_head : (m n l : ℕ) (more : List ℕ) (t : List ℕ) → l < 24 → (m ≡ 3 → ⊥) → shortest_head m n ++ more ≡ (96 + l) ∷ t
+    → ⊥
 unfolding first
 other_head m n l more t short other e = elim (head_first m n more) [
   | inl h ↦ other (omega (arith, h.0, h.1, ap first e, short))
@@ -60,8 +61,10 @@ text_is s t short e = elim (head_first 3 (length s) s) [
 -- an item that is written as a short text, is that text
 item_is : (k : Item) (t : List ℕ) → length t < 24 → deterministic k ≡ (96 + length t) ∷ t → k ≡ text t
 unfolding first
-item_is (uint n) t short e = absurd (other_head 0 n (length t) [] t short (λ no. omega (arith, no)) (append-nil (shortest_head 0 n) ∙ e))
-item_is (nint n) t short e = absurd (other_head 1 n (length t) [] t short (λ no. omega (arith, no)) (append-nil (shortest_head 1 n) ∙ e))
+item_is (uint n) t short e =
+    absurd (other_head 0 n (length t) [] t short (λ no. omega (arith, no)) (append-nil (shortest_head 0 n) ∙ e))
+item_is (nint n) t short e =
+    absurd (other_head 1 n (length t) [] t short (λ no. omega (arith, no)) (append-nil (shortest_head 1 n) ∙ e))
 item_is (bytes b) t short e = absurd (other_head 2 (length b) (length t) b t short (λ no. omega (arith, no)) e)
 item_is (text s) t short e = ap text (text_is s t short e)
 item_is (list vs) t short e = absurd (other_head 4 _ (length t) _ t short (λ no. omega (arith, no)) e)
@@ -73,5 +76,6 @@ item_is (single n) t short e = absurd (omega (arith, ap first e, short))
 item_is (double n) t short e = absurd (omega (arith, ap first e, short))
 
 -- other items than a short text are written otherwise
-pub other_bytes : (k : Item) (t : List ℕ) → length t < 24 → (k ≡ text t → ⊥) → deterministic k ≡ deterministic (text t) → ⊥
+pub other_bytes : (k : Item) (t : List ℕ) → length t < 24 → (k ≡ text t → ⊥) → deterministic k ≡ deterministic (text t)
+    → ⊥
 other_bytes k t short other e = other (item_is k t short (e ∙ text_first t short))

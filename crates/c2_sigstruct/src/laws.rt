@@ -5,8 +5,6 @@ ghost use Rattle.c2_spec.specs.Cbor.Item.{Item};
 ghost use Rattle.c2_spec.specs.C2pa.Sign1.{SignParts, IsMessage};
 ghost use Rattle.c2_sigstruct.specs.Padded.{PaddingAddsItsCost, PaddedIsRead, PaddingIsAllThatIsAdded};
 
-use c2_cbor_spec::{round_trip, sorting_keeps_the_length};
-
 /// An item is a message, with its parts, or is none.
 pub fn each_item_is_a_message_or_not()
     ensures { (v : Item) → ((parts : SignParts) × IsMessage v parts)
@@ -19,8 +17,4 @@ pub fn padded_messages_are_read()
     ensures longer { PaddingAddsItsCost }
     ensures read { PaddedIsRead }
     ensures same { PaddingIsAllThatIsAdded }
-{
-    // Only the prover needs these laws.
-    round_trip();
-    sorting_keeps_the_length();
-}
+{}

@@ -60,14 +60,12 @@ fn padded_header(alloc: Global, header: &Cbor, fill: Fill) -> Result<Cbor, NoMem
 pub fn write_sign1(alloc: Global, sign: &Sign1, fill: Fill) -> Result<Blob, NoMemory>
     requires can { (entries : Pairs) × CanBePadded (parts_of sign.now) entries }
     ensures written { IfOk result (λ b. b ≡ padded_bytes (parts_of sign.now) (fill_pairs fill)) }
-    // They are longer by what the fill costs than the bytes without padding.
+    // The bytes are longer than the message without padding by what the fill costs.
     ensures longer { IfOk result (λ b.
         length b ≡ length (bare_bytes (parts_of sign.now)) + fill_cost fill) }
     ensures again { IfOk result (λ b.
         SpellsMessage b (padded_read (parts_of sign.now) (fill_pairs fill))) }
 {
-    // Only the prover needs this law.
-    c2_cbor_spec::sorting_keeps_the_length();
     let header = padded_header(alloc, &sign.unprotected, fill)?;
     let item = tagged_item(alloc, sign, header)?;
     written(alloc, &item)

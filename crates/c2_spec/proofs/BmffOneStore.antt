@@ -26,31 +26,44 @@ tail_same : (b c : Box) (bs cs : List Box) → b ∷ bs ≡ c ∷ cs → bs ≡ 
 tail_same b c bs cs e = cc (e)
 
 -- a list has one box that holds a store with only other boxes before it
-pub split_once : (bs cs : List Box) (h k : Box) (xs ys : List Box) → bs ++ h ∷ xs ≡ cs ++ k ∷ ys → AllByRecursion (λ (b : Box). is_other_box b ≡ true) bs → is_store_box h ≡ true → AllByRecursion (λ (b : Box). is_other_box b ≡ true) cs → is_store_box k ≡ true → (bs ≡ cs) × (h ≡ k)
+pub split_once : (bs cs : List Box) (h k : Box) (xs ys : List Box) → bs ++ h ∷ xs ≡ cs ++ k ∷ ys
+    → AllByRecursion (λ (b : Box). is_other_box b ≡ true) bs → is_store_box h ≡ true
+    → AllByRecursion (λ (b : Box). is_other_box b ≡ true) cs → is_store_box k ≡ true → (bs ≡ cs) × (h ≡ k)
 split_once [] [] h k xs ys e p a q b = (refl, head_same h k xs ys e)
-split_once [] (c ∷ cs) h k xs ys e p a q b = absurd (no_both c (ap is_store_box (sym (head_same h c xs (cs ++ k ∷ ys) e)) ∙ a) q.0)
-split_once (c ∷ bs) [] h k xs ys e p a q b = absurd (no_both c (ap is_store_box (head_same c k (bs ++ h ∷ xs) ys e) ∙ b) p.0)
+split_once [] (c ∷ cs) h k xs ys e p a q b =
+    absurd (no_both c (ap is_store_box (sym (head_same h c xs (cs ++ k ∷ ys) e)) ∙ a) q.0)
+split_once (c ∷ bs) [] h k xs ys e p a q b =
+    absurd (no_both c (ap is_store_box (head_same c k (bs ++ h ∷ xs) ys e) ∙ b) p.0)
 split_once (c ∷ bs) (d ∷ cs) h k xs ys e p a q b =
     let rest = split_once bs cs h k xs ys (tail_same c d (bs ++ h ∷ xs) (cs ++ k ∷ ys) e) p.1 a q.1 b in
     (ap (λ (x : Box). x ∷ bs) (head_same c d (bs ++ h ∷ xs) (cs ++ k ∷ ys) e) ∙ ap (λ (zs : List Box). d ∷ zs) rest.0, rest.1)
 
 -- root boxes hold one store: one place, one length, one list of bytes
-one_holder : (roots : List Box) (s n t m : ℕ) (a b : List ℕ) → HoldsBmffStore roots s n a → HoldsBmffStore roots t m b → (s ≡ t) × (n ≡ m) × (a ≡ b)
+one_holder : (roots : List Box) (s n t m : ℕ) (a b : List ℕ) → HoldsBmffStore roots s n a → HoldsBmffStore roots t m b
+    → (s ≡ t) × (n ≡ m) × (a ≡ b)
 one_holder roots s n t m a b h k =
-    let one = split_once h.before k.before h.holder k.holder h.after k.after (sym h.split ∙ k.split) h.others_before h.is_holder k.others_before k.is_holder in
+    let one =
+    split_once h.before k.before h.holder k.holder h.after k.after (sym h.split ∙ k.split) h.others_before
+    h.is_holder k.others_before k.is_holder in
     (h.from ∙ ap boxes_len one.0 ∙ sym k.from, h.for ∙ ap box_len one.1 ∙ sym k.for, h.bytes ∙ ap (λ (x : Box). store_in (content_of x)) one.1 ∙ sym k.bytes)
 
 -- where a box holds a store, the boxes aren't all other ones
-not_other : (bs : List Box) (h : Box) (xs : List Box) → is_store_box h ≡ true → AllByRecursion (λ (b : Box). is_other_box b ≡ true) (bs ++ h ∷ xs) → ⊥
+not_other : (bs : List Box) (h : Box) (xs : List Box) → is_store_box h ≡ true
+    → AllByRecursion (λ (b : Box). is_other_box b ≡ true) (bs ++ h ∷ xs) → ⊥
 not_other [] h xs a p = no_both h a p.0
 not_other (b ∷ bs) h xs a p = not_other bs h xs a p.1
 
 -- a BMFF file has one store: one place, one length, one list of bytes
-pub stores_once : (file : List ℕ) (s n t m : ℕ) (a b : List ℕ) → HasBmffStore file s n a → HasBmffStore file t m b → (s ≡ t) × (n ≡ m) × (a ≡ b)
-stores_once file s n t m a b h k = one_holder k.roots s n t m a b (subst (λ rs. HoldsBmffStore rs s n a) (roots_once file h.roots k.roots h.has_roots k.has_roots) h.holds) k.holds
+pub stores_once : (file : List ℕ) (s n t m : ℕ) (a b : List ℕ) → HasBmffStore file s n a → HasBmffStore file t m b
+    → (s ≡ t) × (n ≡ m) × (a ≡ b)
+stores_once file s n t m a b h k =
+    one_holder k.roots s n t m a b
+    (subst (λ rs. HoldsBmffStore rs s n a) (roots_once file h.roots k.roots h.has_roots k.has_roots) h.holds)
+    k.holds
 
 -- a BMFF file that has a store isn't one without a store
 pub store_or_none : (file : List ℕ) (s n : ℕ) (a : List ℕ) → HasBmffStore file s n a → HasNoBmffStore file → ⊥
 store_or_none file s n a h k =
     let same = roots_once file k.roots h.roots k.has_roots h.has_roots in
-    not_other h.holds.before h.holds.holder h.holds.after h.holds.is_holder (subst (λ rs. AllByRecursion (λ (b : Box). is_other_box b ≡ true) rs) (same ∙ h.holds.split) k.none)
+    not_other h.holds.before h.holds.holder h.holds.after h.holds.is_holder
+    (subst (λ rs. AllByRecursion (λ (b : Box). is_other_box b ≡ true) rs) (same ∙ h.holds.split) k.none)

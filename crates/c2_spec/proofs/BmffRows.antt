@@ -37,7 +37,9 @@ is_ftyp = record { kind = refl; fits = refl; user_type = λ h. absurd (false≢t
 
 -- The file has these two root boxes.
 pub two_roots : HasRoots two_boxes (ftyp_box ∷ mdat_box ∷ [])
-two_roots = record { fits = lit< tt; begins = refl; bytes = refl; forms = (record { is_box = is_ftyp; sized = refl }, record { kind = refl; fits = refl; user_type = λ h. absurd (false≢true h) }); few = lit≤ tt }
+two_roots =
+    record
+    { fits = lit< tt; begins = refl; bytes = refl; forms = (record { is_box = is_ftyp; sized = refl }, record { kind = refl; fits = refl; user_type = λ h. absurd (false≢true h) }); few = lit≤ tt }
 
 -- The file has no store.
 pub no_store : HasNoBmffStore two_boxes
@@ -48,27 +50,35 @@ no_store = record { roots = ftyp_box ∷ mdat_box ∷ []; has_roots = two_roots;
 abbrev wide_mdat : Box
 wide_mdat = record { form = long; kind = codes "mdat"; payload = 0x41 ∷ [] }
 
--- The same box with size 0: it runs to the end of the file.
+-- The box `mdat` with size 0: it runs to the end of the file.
 abbrev last_mdat : Box
 last_mdat = record { form = to_end; kind = codes "mdat"; payload = 0x41 ∷ [] }
 
 -- Size 1 and a 64-bit size of 17 after the type are read.
 pub wide_roots : HasRoots (ftyp_bytes ++ (0 ∷ 0 ∷ 0 ∷ 1 ∷ 0x6D ∷ 0x64 ∷ 0x61 ∷ 0x74 ∷ 0 ∷ 0 ∷ 0 ∷ 0 ∷ 0 ∷ 0 ∷ 0 ∷ 0x11 ∷ 0x41 ∷ [])) (ftyp_box ∷ wide_mdat ∷ [])
-wide_roots = record { fits = lit< tt; begins = refl; bytes = refl; forms = (record { is_box = is_ftyp; sized = refl }, record { kind = refl; fits = refl; user_type = λ h. absurd (false≢true h) }); few = lit≤ tt }
+wide_roots =
+    record
+    { fits = lit< tt; begins = refl; bytes = refl; forms = (record { is_box = is_ftyp; sized = refl }, record { kind = refl; fits = refl; user_type = λ h. absurd (false≢true h) }); few = lit≤ tt }
 
 -- Size 0 of the last box is read as up to the end.
 pub open_roots : HasRoots (ftyp_bytes ++ (0 ∷ 0 ∷ 0 ∷ 0 ∷ 0x6D ∷ 0x64 ∷ 0x61 ∷ 0x74 ∷ 0x41 ∷ [])) (ftyp_box ∷ last_mdat ∷ [])
-open_roots = record { fits = lit< tt; begins = refl; bytes = refl; forms = (record { is_box = is_ftyp; sized = refl }, record { kind = refl; fits = refl; user_type = λ h. absurd (false≢true h) }); few = lit≤ tt }
+open_roots =
+    record
+    { fits = lit< tt; begins = refl; bytes = refl; forms = (record { is_box = is_ftyp; sized = refl }, record { kind = refl; fits = refl; user_type = λ h. absurd (false≢true h) }); few = lit≤ tt }
 
 -- 24 bytes of it, and a size of 7
 pub cut_short : FirstBmffFault (take 24 two_boxes) (Truncated 24)
 unfolding box_fault
-cut_short = root (Truncated 24) (lit< tt) refl (record { before = ftyp_box ∷ []; rest = take 8 mdat_bytes; bytes = refl; sized = (record { is_box = is_ftyp; sized = refl }, tt); few = lit≤ tt; more = lit< tt; fails = refl })
+cut_short =
+    root (Truncated 24) (lit< tt) refl
+    (record { before = ftyp_box ∷ []; rest = take 8 mdat_bytes; bytes = refl; sized = (record { is_box = is_ftyp; sized = refl }, tt); few = lit≤ tt; more = lit< tt; fails = refl })
 
 -- A size of 7 is BadBox at the box's place.
 pub bad_size : FirstBmffFault (ftyp_bytes ++ (0 ∷ 0 ∷ 0 ∷ 7 ∷ 0x6D ∷ 0x64 ∷ 0x61 ∷ 0x74 ∷ 0x41 ∷ [])) (BadBox 16)
 unfolding box_fault
-bad_size = root (BadBox 16) (lit< tt) refl (record { before = ftyp_box ∷ []; rest = 0 ∷ 0 ∷ 0 ∷ 7 ∷ 0x6D ∷ 0x64 ∷ 0x61 ∷ 0x74 ∷ 0x41 ∷ []; bytes = refl; sized = (record { is_box = is_ftyp; sized = refl }, tt); few = lit≤ tt; more = lit< tt; fails = refl })
+bad_size =
+    root (BadBox 16) (lit< tt) refl
+    (record { before = ftyp_box ∷ []; rest = 0 ∷ 0 ∷ 0 ∷ 7 ∷ 0x6D ∷ 0x64 ∷ 0x61 ∷ 0x74 ∷ 0x41 ∷ []; bytes = refl; sized = (record { is_box = is_ftyp; sized = refl }, tt); few = lit≤ tt; more = lit< tt; fails = refl })
 
 -- ---- a C2PA box
 
@@ -89,7 +99,9 @@ pub one_store : HasBmffStore (ftyp_bytes ++ box_bytes c2pa_box) 16 56 tiny_store
 unfolding is_c2pa_box is_store_box is_other_box
 one_store = record {
   roots = ftyp_box ∷ c2pa_box ∷ [];
-  has_roots = record { fits = lit< tt; begins = refl; bytes = refl; forms = (record { is_box = is_ftyp; sized = refl }, record { kind = refl; fits = refl; user_type = λ _. lit≤ tt }); few = lit≤ tt };
+  has_roots =
+      record
+      { fits = lit< tt; begins = refl; bytes = refl; forms = (record { is_box = is_ftyp; sized = refl }, record { kind = refl; fits = refl; user_type = λ _. lit≤ tt }); few = lit≤ tt };
   holds = record {
     before = ftyp_box ∷ [];
     holder = c2pa_box;
@@ -206,7 +218,8 @@ field key v ps = pair (text key) v ps
 
 -- A BMFF hash with these exclusions.
 abbrev hash_item : Items → Item
-hash_item exclusions = dict (field (codes "hash") (bytes (1 ∷ 2 ∷ [])) (field (codes "exclusions") (list exclusions) no_pairs))
+hash_item exclusions =
+    dict (field (codes "hash") (bytes (1 ∷ 2 ∷ [])) (field (codes "exclusions") (list exclusions) no_pairs))
 
 -- The exclusion of a root box of this type in full.
 abbrev whole_entry : List ℕ → Exclusion
@@ -214,11 +227,14 @@ whole_entry kind = record { path = step kind None ∷ []; length = None; tests =
 
 -- the entry that the builder writes for its own box
 abbrev uuid_item : Item
-uuid_item = dict (field (codes "data") (list (item (dict (field (codes "value") (bytes c2pa_user_type) (field (codes "offset") (uint 8) no_pairs))) no_items)) (field (codes "xpath") (text (codes "/uuid")) no_pairs))
+uuid_item =
+    dict
+    (field (codes "data") (list (item (dict (field (codes "value") (bytes c2pa_user_type) (field (codes "offset") (uint 8) no_pairs))) no_items)) (field (codes "xpath") (text (codes "/uuid")) no_pairs))
 
 -- The entry of the builder's own box and one for `ftyp` are read as two exclusions.
 built_fields : bmff_hash_of (hash_item (item uuid_item (item (dict (field (codes "xpath") (text (codes "/ftyp")) no_pairs)) no_items)))
-    ≡ Ok (record { exclusions = record { path = step (codes "uuid") None ∷ []; length = None; tests = record { offset = 8; value = c2pa_user_type } ∷ []; subset = None } ∷ whole_entry (codes "ftyp") ∷ []; alg = None; hash = 1 ∷ 2 ∷ [] })
+    ≡ Ok
+    (record { exclusions = record { path = step (codes "uuid") None ∷ []; length = None; tests = record { offset = 8; value = c2pa_user_type } ∷ []; subset = None } ∷ whole_entry (codes "ftyp") ∷ []; alg = None; hash = 1 ∷ 2 ∷ [] })
 built_fields = refl
 
 -- a Merkle tree comes before the form, an unknown test before a path, whatever their places
@@ -249,7 +265,8 @@ trak_box payload = record { form = short; kind = codes "trak"; payload = payload
 
 -- A box of type `moov` with two `trak` boxes in it, the first with one byte.
 abbrev moov_box : Box
-moov_box = record { form = short; kind = codes "moov"; payload = box_bytes (trak_box (7 ∷ [])) ++ box_bytes (trak_box []) }
+moov_box =
+    record { form = short; kind = codes "moov"; payload = box_bytes (trak_box (7 ∷ [])) ++ box_bytes (trak_box []) }
 
 -- The second `trak` in `moov` is at 33.
 second_trak : OnPath (placed_from 0 (ftyp_box ∷ moov_box ∷ [])) (step (codes "moov") None ∷ step (codes "trak") (Some 2) ∷ []) (record { at = 33; box = trak_box [] })
@@ -291,7 +308,9 @@ too_long_uuid = refl
 
 -- the first box may run to the end
 pub whole_file : HasRoots (0 ∷ 0 ∷ 0 ∷ 0 ∷ 0x66 ∷ 0x74 ∷ 0x79 ∷ 0x70 ∷ 7 ∷ []) (record { form = to_end; kind = codes "ftyp"; payload = 7 ∷ [] } ∷ [])
-whole_file = record { fits = lit< tt; begins = refl; bytes = refl; forms = record { kind = refl; fits = refl; user_type = λ h. absurd (false≢true h) }; few = lit≤ tt }
+whole_file =
+    record
+    { fits = lit< tt; begins = refl; bytes = refl; forms = record { kind = refl; fits = refl; user_type = λ h. absurd (false≢true h) }; few = lit≤ tt }
 
 -- A step with the number 1 matches the first `mdat` alone.
 first_mdat : matched (step (codes "mdat") (Some 1)) (placed_from 0 (ftyp_box ∷ mdat_box ∷ [])) ≡ record { at = 16; box = mdat_box } ∷ []

@@ -11,4 +11,6 @@ header_size to_end n k four = omega (arith, four)
 
 -- a box has its length
 pub bytes_size : (b : Box) → IsBox b → length (box_bytes b) ≡ box_len b
-bytes_size b h = length-append (header_bytes b.form (box_len b) b.kind) b.payload ∙ ap (λ n. n + length b.payload) (header_size b.form (box_len b) b.kind h.kind)
+bytes_size b h =
+    length-append (header_bytes b.form (box_len b) b.kind) b.payload
+    ∙ ap (λ n. n + length b.payload) (header_size b.form (box_len b) b.kind h.kind)

@@ -1,38 +1,42 @@
 mod AssertionRows
+pub mod BmffNoFault
+pub mod BmffOneList
+pub mod BmffOneOutcome
+pub mod BmffOneStore
+pub mod BmffPassing
+mod BmffRows
+pub mod BmffShared
+pub mod BmffSizes
+pub mod BmffTests
+pub mod BoxParts
+pub mod BoxesOfManifests
 pub mod CborEach
 mod CborRows
+pub mod CborShared
 mod ClaimRows
 pub mod ClaimVersions
+pub mod Containers
 mod CoverRows
-mod BmffRows
-mod JpegRows
-mod PanelRows
-mod Sign1Rows
-mod StoreRows
-mod UriRows
-pub mod TextKeys
-pub mod JumbfHeads
-pub mod JumbfParts
-pub mod JumbfOneTree
-pub mod JumbfNoFault
-pub mod JumbfOneFault
-pub mod JumbfCode
-pub mod JumbfRows
 pub mod Digests
-pub mod Kept
-pub mod BmffTests
-pub mod BmffSizes
-pub mod BmffOneList
-pub mod BmffPassing
-pub mod BmffNoFault
-pub mod BmffOneStore
-pub mod BmffOneOutcome
+pub mod GivenLabels
+mod JpegRows
 pub mod JumbfBoxes
 pub mod JumbfChildren
-pub mod StoreRefusals
-pub mod BoxesOfManifests
+pub mod JumbfCode
+pub mod JumbfHeads
+pub mod JumbfNoFault
+pub mod JumbfOneFault
+pub mod JumbfOneTree
+pub mod JumbfParts
+pub mod JumbfRows
+pub mod Kept
 pub mod LabelsOfManifests
-pub mod BoxParts
-pub mod GivenLabels
-pub mod Containers
 pub mod OneMessage
+pub mod Openings
+mod PanelRows
+mod Sign1Rows
+pub mod StoreRefusals
+mod StoreRows
+pub mod TextKeys
+pub mod TextPrefixes
+mod UriRows

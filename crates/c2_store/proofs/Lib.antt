@@ -1,3 +1,4 @@
 pub mod Gathering
 pub mod Picking
 pub mod Refusing
+pub mod TheLaws

@@ -3,3 +3,4 @@ mod Containers
 mod Endings
 mod Strips
 mod Taking
+pub mod TheLaws

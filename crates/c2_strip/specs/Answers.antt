@@ -40,12 +40,12 @@ ending_of (Err WriteFault) = write_fault
 ending_of (Err NoMemory) = untouched
 
 -- what an error says of the source, by its count of faults before and after
-abbrev pub IsReadCause : ℕ → ℕ → StripError → Type 0
-IsReadCause before now ReadFault = Rose before now
-IsReadCause before now WriteFault = now ≡ before
-IsReadCause before now NoMemory = ⊤
+abbrev pub IsStripReadCause : ℕ → ℕ → StripError → Type 0
+IsStripReadCause before now ReadFault = Rose before now
+IsStripReadCause before now WriteFault = now ≡ before
+IsStripReadCause before now NoMemory = ⊤
 
--- what it says of the sink
-abbrev pub IsWriteCause : ℕ → ℕ → StripError → Type 0
-IsWriteCause before now WriteFault = Rose before now
-IsWriteCause before now _ = now ≡ before
+-- what an error of a call that strips says of the sink, by its count of faults before and after
+abbrev pub IsStripWriteCause : ℕ → ℕ → StripError → Type 0
+IsStripWriteCause before now WriteFault = Rose before now
+IsStripWriteCause before now _ = now ≡ before

@@ -8,7 +8,7 @@ ghost use Rattle.c2_strip.specs.Stripping.{StripsTo};
 use crate::Stripped;
 use c2_base::Range;
 use c2_bmff_boxes::RootBox;
-use c2_container::{Contained, Container, each_media_file_is_located};
+use c2_container::{Contained, Container};
 
 // The type of the box that tells where fragments are.
 const MFRA: [u8; 4] = *b"mfra";
@@ -38,8 +38,6 @@ pub(crate) fn answer_of(contained: &Contained) -> Stripped
     ensures strips { (file : List ℕ) → IsSaid file (Ok contained.now) → StripsTo file result }
     ensures within { (len : ℕ) → IsWithin len contained.now → IsAnswerOf len result }
 {
-    // Only the prover needs this law.
-    each_media_file_is_located();
     let Some(found) = &contained.found else {
         return Stripped::NoStore;
     };

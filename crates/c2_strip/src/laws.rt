@@ -5,18 +5,12 @@ ghost use Rattle.c2_spec.specs.Cover.{data_text};
 ghost use Rattle.c2_strip.specs.Stripping.{StripsTo, stripped};
 ghost use Rattle.c2_strip.specs.declared.error.Stripped.{Stripped as AnyStripped};
 
-use c2_bmff_boxes::a_file_has_one_list_of_roots;
-use c2_container::each_media_file_is_located;
-
 /// Whatever bytes a file has, it comes to one thing without its store.
 pub fn each_file_is_stripped()
     ensures each { (file : List ℕ) → All (λ b. b < 2 ^ 8) file
         → (a : AnyStripped) × StripsTo file a }
     ensures once { (file : List ℕ) (a b : AnyStripped) → StripsTo file a → StripsTo file b → a ≡ b }
-{
-    each_media_file_is_located();
-    a_file_has_one_list_of_roots();
-}
+{}
 
 /// A file less a range is the list of its bytes at the positions outside of this range, in order: what a data hash covers that excludes
 /// this range alone.

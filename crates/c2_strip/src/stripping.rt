@@ -4,11 +4,10 @@ ghost use Rattle.std.specs.Option.{ForSome};
 ghost use Rattle.c2_base.specs.Sink.{WritesSink, unsaid};
 ghost use Rattle.c2_base.specs.Source.{ReadsSource};
 ghost use Rattle.c2_copying.specs.Writing.{EndsSink, WritesFile};
-ghost use Rattle.c2_strip.specs.Answers.{IsAnswerOf, IsReadCause, IsStripped, IsWriteCause, Writes, ending_of};
+ghost use Rattle.c2_strip.specs.Answers.{IsAnswerOf, IsStripReadCause, IsStripped, IsStripWriteCause, Writes, ending_of};
 ghost use Rattle.c2_strip.specs.Endings.{IsRefusedBy};
 
 use crate::ending::answer_of;
-use crate::laws::each_file_is_stripped;
 use crate::writing::write_outside;
 use crate::{StripError, Stripped};
 use c2_base::{MediaError, Sink, Source};
@@ -51,11 +50,10 @@ pub fn strip<S: Source, K: Sink>(
     // These hold of every source.
     ensures within { IfOk result (IsAnswerOf (S.len source.old)) }
     ensures ends { EndsSink K.finished out.old out.new (ending_of result) }
-    ensures reads { ReadsSource S.len S.known S.faults IsReadCause source.old source.new result }
-    ensures writes { WritesSink K.written unsaid K.faults IsWriteCause out.old out.new result }
+    ensures reads { ReadsSource S.len S.known S.faults IsStripReadCause
+        source.old source.new result }
+    ensures writes { WritesSink K.written unsaid K.faults IsStripWriteCause out.old out.new result }
 {
-    // Only the prover needs these laws.
-    each_file_is_stripped();
     steps_follow::<K>();
     // Matched and not handed up by `?`, here and below: each way out has clauses of its own.
     let contained = match locate(alloc, source) {

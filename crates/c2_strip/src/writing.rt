@@ -3,7 +3,7 @@ ghost use Rattle.std.specs.Prelude.{◌≡◌, ◌+◌, ◌<◌, ◌≤◌, true
 ghost use Rattle.std.specs.Option.{ForSome};
 ghost use Rattle.c2_base.specs.Sink.{WritesSink, unsaid};
 ghost use Rattle.c2_base.specs.Source.{ReadsSource};
-ghost use Rattle.c2_copying.specs.Writing.{IsReadCause, IsStep, IsWhole, IsWriteCause};
+ghost use Rattle.c2_copying.specs.Writing.{IsCopyReadCause, IsStep, IsWhole, IsCopyWriteCause};
 ghost use Rattle.c2_strip.specs.Stripping.{stripped};
 
 use c2_base::{Failed, Range, Sink, Source};
@@ -22,8 +22,9 @@ fn copy_outside<S: Source, K: Sink>(
     requires room { 0 < length buf.old }
     ensures step { ForSome (S.known source.old) (λ file. IsStep K.written K.spare K.finished
         (stripped range file) sink.old sink.new result) }
-    ensures reads { ReadsSource S.len S.known S.faults IsReadCause source.old source.new result }
-    ensures writes { WritesSink K.written K.finished K.faults IsWriteCause
+    ensures reads { ReadsSource S.len S.known S.faults IsCopyReadCause
+        source.old source.new result }
+    ensures writes { WritesSink K.written K.finished K.faults IsCopyWriteCause
         sink.old sink.new result }
 {
     // Only the prover needs this law.
@@ -52,8 +53,10 @@ pub(crate) fn write_outside<S: Source, K: Sink>(
         (stripped range file) sink.old sink.new result) }
     ensures finished { OnOk result (K.finished sink.new ≡ true) }
     ensures unfinished { OnErr result (K.finished sink.new ≡ K.finished sink.old) }
-    ensures reads { ReadsSource S.len S.known S.faults IsReadCause source.old source.new result }
-    ensures writes { WritesSink K.written unsaid K.faults IsWriteCause sink.old sink.new result }
+    ensures reads { ReadsSource S.len S.known S.faults IsCopyReadCause
+        source.old source.new result }
+    ensures writes { WritesSink K.written unsaid K.faults IsCopyWriteCause
+        sink.old sink.new result }
 {
     // Only the prover needs this law.
     steps_follow::<K>();

@@ -164,7 +164,7 @@ fn stores_that_clash_are_refused(rt: HostRuntime) -> Result<(), Fail> {
     let mut inputs = relabelled(alloc)?;
     inputs.media = once_built(alloc)?.media;
 
-    // The same definition and message over another picture.
+    // Another picture is built with the same definition and message.
     let mut media = Vec::from_slice(alloc, MEDIA)?;
     assert!(rt; 19 < media.len());
     media[19] = 1;

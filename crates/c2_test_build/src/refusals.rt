@@ -63,7 +63,7 @@ fn a_definition_is_refused(rt: HostRuntime) -> Result<(), Fail> {
     inputs.message = Vec::new(alloc);
     comes_to(&rt, alloc, &inputs, false, "BadDefinition(Label)")?;
 
-    // And media that is none comes before it.
+    // Media that is none is refused before a definition is.
     inputs.media = Vec::new(alloc);
     comes_to(&rt, alloc, &inputs, false, "MediaRefused(NotMedia, 0)")
 }

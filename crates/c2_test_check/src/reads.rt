@@ -1,41 +1,36 @@
 // How often the check of a file reads each byte of it.
 use crate::counted::CountedSource;
 use crate::files::{FILM, PICTURE};
+use crate::judges::approving;
 use c2_hash::Sha;
-use c2_judge::{FixedJudge, Judge, Verdict};
 use c2_validate::{Answer, find_store, validate};
 use std::alloc::Global;
 use std::test::Fail;
 
-// Where the store's packets begin in the picture, and the bytes behind them.
-const PACKETS: usize = 20;
+/// Where the store's packets begin in the picture.
+pub const PACKETS: usize = 20;
 
-const PICTURE_END: usize = 1161;
+/// Where the bytes behind them do.
+pub const PICTURE_END: usize = 1161;
 
-// Where the box of the film's media data begins, and where that of its store does.
-const MEDIA_DATA: usize = 16;
+/// Where the box of the film's media data begins.
+pub const MEDIA_DATA: usize = 16;
 
-const STORE_BOX: usize = 25;
+/// Where that of its store does.
+pub const STORE_BOX: usize = 25;
 
 // How many bytes of a box the exclusion of the store's box asks for: its header and its user type.
 const ASKED: usize = 24;
 
-// Judges of whom the one approves all.
-fn approving(alloc: Global) -> Result<Vec<Box<dyn Judge>>, Fail> {
-    let mut judges: Vec<Box<dyn Judge>> = Vec::new(alloc);
-    judges.push(Box::new(alloc, FixedJudge::new(Verdict::Approved, 0))?)?;
-    Ok(judges)
-}
-
-// How often each byte is read where a file's container and its store are found.
-fn by_search(alloc: Global, file: &[u8]) -> Result<CountedSource, Fail> {
+/// How often each byte is read where a file's container and its store are found.
+pub fn by_search(alloc: Global, file: &[u8]) -> Result<CountedSource, Fail> {
     let mut source = CountedSource::new(alloc, file)?;
     let _found = find_store(alloc, &mut source);
     Ok(source)
 }
 
-// How often each byte is read where a file is checked, and whether it is valid.
-fn by_check(alloc: Global, file: &[u8]) -> Result<(CountedSource, bool), Fail> {
+/// How often each byte is read where a file is checked, and whether it is valid.
+pub fn by_check(alloc: Global, file: &[u8]) -> Result<(CountedSource, bool), Fail> {
     let mut source = CountedSource::new(alloc, file)?;
     let mut judges = approving(alloc)?;
     let valid = match validate(alloc, &Sha, &mut source, &mut judges) {
@@ -45,8 +40,8 @@ fn by_check(alloc: Global, file: &[u8]) -> Result<(CountedSource, bool), Fail> {
     Ok((source, valid))
 }
 
-// Whether each byte from `start` to `end` is read `more` times more often by one source than by another.
-fn are_more(one: &[u32], other: &[u32], start: usize, end: usize, more: u32) -> bool {
+/// Whether each byte from `start` to `end` is read `more` times more often by one source than by another.
+pub fn are_more(one: &[u32], other: &[u32], start: usize, end: usize, more: u32) -> bool {
     for i in start..end {
         if one.get(i).copied() != other.get(i).map(|count| count.saturating_add(more)) {
             return false;

@@ -16,7 +16,7 @@ fn range(start: u64, length: u64) -> Range {
     Range { start, length }
 }
 
-// Of 2^61 bytes all but the first and the last are excluded: two reads.
+// All of 2^61 bytes are excluded but the first and the last: two reads.
 #[test]
 fn excluded_bytes_are_not_read(rt: HostRuntime) -> Result<(), Fail> {
     let alloc = rt.alloc();

@@ -4,11 +4,11 @@ ghost use Rattle.c2_bmff_chunks.specs.Tables.{StandApart};
 
 use crate::line::{Line, shown};
 use crate::settings::Settings;
-use crate::trouble::Trouble;
 use c2_base::{Blob, MemSource, ReadAllError, Source, read_all};
 use c2_bmff::roots;
 use c2_shift::types::Tables;
 use c2_shift::{ChunkTable, NamedTables, Shifted, check_shift, read_shifted, tables};
+use c2_test_tables::Trouble;
 use std::alloc::Global;
 use std::marker::Brand;
 

@@ -1,9 +1,9 @@
 // Claims, field by field.
 use crate::line::Line;
 use crate::settings::Settings;
-use crate::trouble::Trouble;
 use c2_claim::{Claim, ClaimVersion, claim_version, read};
 use c2_spec::Ref;
+use c2_test_tables::Trouble;
 use std::alloc::Global;
 
 /// A reference: its URI, its digest and its algorithm.

@@ -4,13 +4,13 @@ ghost use Rattle.std.specs.Prelude.{◌<◌};
 use crate::films::exclusions_of;
 use crate::line::{Line, shown};
 use crate::settings::{Settings, ranges_of};
-use crate::trouble::Trouble;
 use c2_base::{Blob, Failed, MemSource, Range};
 use c2_bmff::{Exclusion, roots};
 use c2_cover::{
     Cover, bmff_cover, check_ranges, covered_count, data_cover, digest_cover, outside_count,
 };
 use c2_hash::{Digest, Sha};
+use c2_test_tables::Trouble;
 use std::alloc::Global;
 
 // How many bytes a read gives, and how many the buffer takes.
@@ -79,7 +79,7 @@ pub fn data(alloc: Global, settings: &Settings, bytes: &[u8]) -> Result<String, 
     Ok(wanted)
 }
 
-// The same over a source that gives `most` bytes a call, through a buffer of `room` bytes.
+// What a data hash covers over a source that gives `most` bytes a call, through a buffer of `room` bytes.
 fn data_at(
     alloc: Global,
     settings: &Settings,
@@ -119,7 +119,7 @@ pub fn film(alloc: Global, settings: &Settings, bytes: &[u8]) -> Result<String, 
     Ok(wanted)
 }
 
-// The same over a source that gives `most` bytes a call, through a buffer of `room` bytes.
+// What a BMFF hash covers over a source that gives `most` bytes a call, through a buffer of `room` bytes.
 fn bmff_at(
     alloc: Global,
     settings: &Settings,

@@ -2,7 +2,6 @@
 use crate::claims::show_ref;
 use crate::line::Line;
 use crate::settings::Settings;
-use crate::trouble::Trouble;
 use c2_assertion::{
     BmffHash, DataHash, Ingredient, IngredientVersion, ingredient_version, read_bmff_hash,
     read_data_hash, read_ingredient, write_bmff_hash, write_data_hash, write_ingredient,
@@ -12,6 +11,7 @@ use c2_bmff::Exclusion;
 use c2_cbor::decode_whole;
 use c2_cbor_write::encode;
 use c2_spec::{Cbor, Ref};
+use c2_test_tables::Trouble;
 use std::alloc::Global;
 
 // The item of these bytes.

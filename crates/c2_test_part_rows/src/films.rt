@@ -3,12 +3,12 @@ use crate::line::{Line, shown};
 use crate::media::located;
 use crate::read::bytes_of;
 use crate::settings::{Settings, range_of};
-use crate::trouble::Trouble;
 use c2_base::{Blob, MemSource, Range, Ranges};
 use c2_bmff::{
     ByteTests, Exclusion, Path, RootBox, insert_place, locate, match_path, match_paths, read_path,
     roots,
 };
+use c2_test_tables::Trouble;
 use std::alloc::Global;
 
 /// Whether a text has the form of a path.

@@ -1,9 +1,9 @@
 // CBOR items in diagnostic notation.
 use crate::line::Line;
-use crate::trouble::Trouble;
 use c2_cbor::{decode, decode_whole};
 use c2_cbor_write::{encode, encoded_len};
 use c2_spec::Cbor;
+use c2_test_tables::Trouble;
 use std::alloc::Global;
 
 fn show_simple(out: &mut Line, value: u8) {

@@ -1,7 +1,7 @@
 // A line that says what an input comes to.
-use crate::trouble::Trouble;
 use c2_base::Text;
 use c2_hash::{Alg, Sha, digest_of};
+use c2_test_tables::Trouble;
 use std::alloc::Global;
 use std::fmt;
 

@@ -20,14 +20,13 @@ mod sidecars;
 mod stores;
 mod table;
 mod trees;
-mod trouble;
 mod uris;
 mod verdicts;
 mod views;
 
 use crate::table::Table;
-use crate::trouble::Trouble;
 use c2_base::{Blob, HostFile, read_all};
+use c2_test_tables::Trouble;
 use std::alloc::Global;
 use std::env;
 use std::process::ExitCode;

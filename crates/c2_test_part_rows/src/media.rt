@@ -1,10 +1,10 @@
 // Files of media.
 use crate::line::{Line, shown};
 use crate::settings::Settings;
-use crate::trouble::Trouble;
 use crate::{chunks, films, parts, sidecars};
 use c2_base::{Blob, Found, MediaError, MemSource};
 use c2_jpegseg::{free_number, insert_place, locate};
+use c2_test_tables::Trouble;
 use std::alloc::Global;
 
 // The lengths of pieces in which a file is read.
@@ -51,7 +51,7 @@ pub fn in_pieces(
     Ok(wanted)
 }
 
-// The same over a source that gives `most` bytes a call.
+// What is said of a file over a source that gives `most` bytes a call.
 fn said_in(
     alloc: Global,
     settings: &Settings,

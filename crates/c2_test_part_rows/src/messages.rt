@@ -2,9 +2,9 @@
 use crate::line::Line;
 use crate::read::bytes_of;
 use crate::settings::Settings;
-use crate::trouble::Trouble;
 use c2_base::{NoMemory, Question};
 use c2_sigstruct::{Sign1, is_plain, question, read_sign1};
+use c2_test_tables::Trouble;
 use std::alloc::Global;
 
 /// The protected header and the signature of a message; the signed bytes and the unprotected header of its question on the claim that

@@ -4,11 +4,11 @@ ghost use Rattle.std.specs.Prelude.{◌≡◌, ◌+◌, ◌<◌, ◌≤◌, ◌^
 use crate::line::Line;
 use crate::read::bytes_of;
 use crate::settings::Settings;
-use crate::trouble::Trouble;
 use c2_base::{Blob, MemSink, MemSource, ReadAllError, Source, read_all};
 use c2_copying::copy;
 use c2_inserted::{Inserted, NamedPiece};
 use c2_strip::strip;
+use c2_test_tables::Trouble;
 use std::alloc::Global;
 use std::fmt;
 use std::marker::Brand;

@@ -1,5 +1,5 @@
 // Bytes as hex.
-use crate::trouble::Trouble;
+use c2_test_tables::Trouble;
 use std::alloc::Global;
 
 /// The bytes of hex, in which `COUNT*PIECE` between spaces stands for a piece that comes so many times.

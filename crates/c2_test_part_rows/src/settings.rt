@@ -1,7 +1,7 @@
 // What the lines of a table set for the rows behind them.
-use crate::trouble::Trouble;
 use c2_base::Range;
 use c2_hash::{Alg, alg_of};
+use c2_test_tables::Trouble;
 use std::alloc::Global;
 
 /// What is set: a key and a value each, of which the last of a key holds.

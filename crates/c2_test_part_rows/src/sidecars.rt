@@ -3,11 +3,11 @@ use crate::line::shown;
 use crate::parts::taken;
 use crate::read::bytes_of;
 use crate::settings::Settings;
-use crate::trouble::Trouble;
 use c2_base::{Blob, MemSink, MemSource};
 use c2_hash::Sha;
 use c2_judge::Judge;
 use c2_sidecar::{extract, validate_external};
+use c2_test_tables::Trouble;
 use std::alloc::Global;
 
 // The length of pieces in which the external store is read.

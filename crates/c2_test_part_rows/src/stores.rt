@@ -1,10 +1,10 @@
 // Stores, manifest by manifest.
 use crate::line::Line;
-use crate::trouble::Trouble;
 use c2_jumbf::{Tree, parse};
 use c2_store::{
     Store, assertions, claims, is_update, label, manifest_count, of_tree, signature, whole,
 };
+use c2_test_tables::Trouble;
 use std::alloc::Global;
 
 fn show_indices(out: &mut Line, indices: &[usize]) {

@@ -1,7 +1,7 @@
 // A table, line by line.
 use crate::settings::Settings;
-use crate::trouble::Trouble;
 use crate::views::view;
+use c2_test_tables::Trouble;
 use std::alloc::Global;
 
 /// What the lines so far say, and how many rows there were.

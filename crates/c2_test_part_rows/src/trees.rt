@@ -1,12 +1,12 @@
 // Trees of boxes.
 use crate::line::{Line, shown};
 use crate::settings::Settings;
-use crate::trouble::Trouble;
 use c2_base::NoMemory;
 use c2_jumbf::{
     Tree, child, contents, count, depth, find, head, kind, label_of, parse, place, total, uuid_of,
     write,
 };
+use c2_test_tables::Trouble;
 use std::alloc::Global;
 
 /// Depth, place, length, kind and label of each box; the tree is written as it was read.

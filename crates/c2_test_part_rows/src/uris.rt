@@ -1,6 +1,6 @@
 // JUMBF URIs and labels.
 use crate::line::Line;
-use crate::trouble::Trouble;
+use c2_test_tables::Trouble;
 use c2_uri::{Target, base_label, parse};
 use std::alloc::Global;
 

@@ -2,9 +2,9 @@
 use crate::line::Line;
 use crate::read::bytes_of;
 use crate::settings::Settings;
-use crate::trouble::Trouble;
 use c2_base::{Blob, Question};
 use c2_judge::{Judge, ListJudge, question_id};
+use c2_test_tables::Trouble;
 use std::alloc::Global;
 
 // A part of the question that is set, empty where there is none.

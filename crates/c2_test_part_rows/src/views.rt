@@ -2,23 +2,23 @@
 use crate::line::{Line, shown};
 use crate::read::bytes_of;
 use crate::settings::Settings;
-use crate::trouble::Trouble;
 use crate::{claims, covers, fields, films, items, media, messages, stores, trees, uris, verdicts};
 use c2_assertion::kind;
 use c2_hash::{Sha, digest_of};
 use c2_pad::fill;
+use c2_test_tables::Trouble;
 use std::alloc::Global;
 
 /// What is said of an input.
 #[derive(Clone, Copy)]
 enum Shown {
-    /// Of a text.
+    /// What is said of a text.
     Text(TextView),
 
-    /// Of bytes.
+    /// What is said of bytes.
     Bytes(BytesView),
 
-    /// Of a file that is read in pieces.
+    /// What is said of a file that is read in pieces.
     File(media::FileView),
 }
 

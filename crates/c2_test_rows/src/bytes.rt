@@ -1,5 +1,5 @@
 // Bytes of a row, and media files that are made of them.
-use crate::trouble::Trouble;
+use c2_test_tables::Trouble;
 use std::alloc::{AllocError, Global};
 
 // The most bytes of a store in a packet.

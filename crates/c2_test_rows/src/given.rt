@@ -1,6 +1,6 @@
 // The files of a row.
 use crate::bytes::bytes_of;
-use crate::trouble::Trouble;
+use c2_test_tables::Trouble;
 use std::alloc::Global;
 
 /// The files that rows have had at the four places of sources, and how many of them the last row has.

@@ -1,7 +1,7 @@
 // Judges by name.
 use crate::bytes::bytes_of;
-use crate::trouble::Trouble;
 use c2_judge::{BrokenJudge, FixedJudge, ListJudge, Verdict};
+use c2_test_tables::Trouble;
 use std::alloc::Global;
 
 /// A judge.

@@ -1,5 +1,5 @@
 // A line that says what a run comes to.
-use crate::trouble::Trouble;
+use c2_test_tables::Trouble;
 use std::alloc::Global;
 use std::fmt;
 

@@ -12,12 +12,11 @@ mod once;
 mod settings;
 mod sinks;
 mod table;
-mod trouble;
 mod views;
 
 use crate::table::Table;
-use crate::trouble::Trouble;
 use c2_base::{Blob, HostFile, read_all};
+use c2_test_tables::Trouble;
 use std::alloc::Global;
 use std::env;
 use std::process::ExitCode;

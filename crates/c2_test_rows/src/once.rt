@@ -4,11 +4,11 @@ use crate::judges::{Named, judge_of};
 use crate::line::Line;
 use crate::settings::{Fault, Hash, Object, Settings};
 use crate::sinks::InPieces;
-use crate::trouble::Trouble;
 use c2_base::{Blob, MemSink, MemSource, Source, VastSource};
 use c2_cmd::run;
 use c2_hash::{Alg, Hashing, Sha, WeakSum, digest_of};
 use c2_judge::Judge;
+use c2_test_tables::Trouble;
 use std::alloc::Global;
 
 /// What a run comes to: the status, the report, whether that is finished, how often each judge was asked, the new file, and whether
@@ -143,7 +143,7 @@ pub fn run_once(
     }
 }
 
-// The same, where the first file is the front of one of so many bytes.
+// Runs the words over files whose first is the front of one of so many bytes, where an object fails.
 fn run_vast(
     alloc: Global,
     settings: &Settings,

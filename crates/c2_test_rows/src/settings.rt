@@ -1,5 +1,5 @@
 // What the lines of a table set for the rows behind them.
-use crate::trouble::Trouble;
+use c2_test_tables::Trouble;
 use std::alloc::Global;
 
 /// The hash of a run.

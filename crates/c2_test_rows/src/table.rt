@@ -3,8 +3,8 @@ use crate::bytes::in_jpeg;
 use crate::given::Given;
 use crate::line::Line;
 use crate::settings::Settings;
-use crate::trouble::Trouble;
 use crate::views::view;
+use c2_test_tables::Trouble;
 use std::alloc::Global;
 
 /// What the lines so far say, and how many rows there were.
@@ -109,7 +109,7 @@ fn row(
     Ok(None)
 }
 
-// The same over this first file.
+// What the first run of a row over this first file comes to that comes to something else than is wanted.
 fn in_pieces(
     alloc: Global,
     settings: &Settings,

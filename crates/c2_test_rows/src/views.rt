@@ -4,8 +4,8 @@ use crate::given::Read;
 use crate::line::Line;
 use crate::once::{Outcome, run_once};
 use crate::settings::{Fault, Object, Settings, View};
-use crate::trouble::Trouble;
 use c2_cmd::roles;
+use c2_test_tables::Trouble;
 use std::alloc::Global;
 
 // The most calls of one object.

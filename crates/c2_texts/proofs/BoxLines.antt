@@ -6,6 +6,7 @@ use Rattle.std.specs.List.{flat_map}
 use Rattle.c2_spec.specs.Jumbf.Tree.{Tree, Trees, leaf, super, none, more, tree_bytes, head_len, description_bytes}
 use Rattle.c2_spec.specs.Jumbf.Boxes.{box_at, boxes_of, boxes_from, boxes_from_all, tree_count, trees_count}
 use Rattle.c2_texts.specs.Texts.{box_line, listing}
+use Rattle.c2_spec.proofs.JumbfBoxes.{count_is}
 
 -- a tree has as many boxes as it takes indices
 mutual
@@ -20,21 +21,27 @@ mutual
   length-all at depth i (more t ts) =
       let first = length-boxes at depth i t in
       let rest = length-all (at + length (tree_bytes t)) depth (i + tree_count t) ts in
-      let both = length-append (boxes_from at depth i t) (boxes_from_all (at + length (tree_bytes t)) depth (i + tree_count t) ts) in
+      let both =
+      length-append (boxes_from at depth i t)
+      (boxes_from_all (at + length (tree_bytes t)) depth (i + tree_count t) ts) in
       omega (arith, first, rest, both)
 
--- a tree lists as many boxes as it counts
-count_is : (t : Tree) → length (boxes_of t) ≡ tree_count t
-count_is t = length-boxes 0 1 0 t
-
 -- one line more
-pub lines_more : (t : Tree) (i : ℕ) (before after : List ℕ) → i < tree_count t → before ≡ flat_map box_line (take i (boxes_of t)) → after ≡ before ++ box_line (box_at t i) → after ≡ flat_map box_line (take (i + 1) (boxes_of t))
+pub lines_more : (t : Tree) (i : ℕ) (before after : List ℕ) → i < tree_count t
+    → before ≡ flat_map box_line (take i (boxes_of t)) → after ≡ before ++ box_line (box_at t i)
+    → after ≡ flat_map box_line (take (i + 1) (boxes_of t))
 lines_more t i before after below b a =
-    let boxes : take (i + 1) (boxes_of t) ≡ take i (boxes_of t) ++ box_at t i ∷ [] = take_more (boxes_of t) i _ (rw (count_is t) below) in
-    let lines : flat_map box_line (take i (boxes_of t) ++ box_at t i ∷ []) ≡ flat_map box_line (take i (boxes_of t)) ++ flat_map box_line (box_at t i ∷ []) = flat_map-append box_line (take i (boxes_of t)) (box_at t i ∷ []) in
+    let boxes : take (i + 1) (boxes_of t) ≡ take i (boxes_of t) ++ box_at t i ∷ [] =
+    take_more (boxes_of t) i _ (rw (count_is t) below) in
+    let lines : flat_map box_line (take i (boxes_of t) ++ box_at t i ∷ []) ≡ flat_map box_line (take i (boxes_of t)) ++ flat_map box_line (box_at t i ∷ []) =
+    flat_map-append box_line (take i (boxes_of t)) (box_at t i ∷ []) in
     let one : flat_map box_line (box_at t i ∷ []) ≡ box_line (box_at t i) = append-nil (box_line (box_at t i)) in
-    a ∙ ap (λ l. l ++ box_line (box_at t i)) b ∙ sym (ap (λ bs. flat_map box_line bs) boxes ∙ lines ∙ ap (λ l. flat_map box_line (take i (boxes_of t)) ++ l) one)
+    a ∙ ap (λ l. l ++ box_line (box_at t i)) b
+    ∙ sym
+    (ap (λ bs. flat_map box_line bs) boxes ∙ lines ∙ ap (λ l. flat_map box_line (take i (boxes_of t)) ++ l) one)
 
 -- all lines
-pub lines_whole : (t : Tree) (i : ℕ) (text : List ℕ) → i ≡ tree_count t → text ≡ flat_map box_line (take i (boxes_of t)) → text ≡ listing t
-lines_whole t i text end is = is ∙ ap (λ bs. flat_map box_line bs) (take_all i (boxes_of t) (let same = count_is t in omega (arith, same, end)))
+pub lines_whole : (t : Tree) (i : ℕ) (text : List ℕ) → i ≡ tree_count t → text ≡ flat_map box_line (take i (boxes_of t))
+    → text ≡ listing t
+lines_whole t i text end is =
+    is ∙ ap (λ bs. flat_map box_line bs) (take_all i (boxes_of t) (let same = count_is t in omega (arith, same, end)))

@@ -63,7 +63,10 @@ pub printable_encode : (c : ℕ) → map printed_byte (encode c) ≡ encode (pri
 printable_encode c = by_size c (search arith)
 
 -- one character more
-pub printable_step : (copy more rest after text : List ℕ) (c : ℕ) → copy ++ printed rest ≡ text → rest ≡ encode c ++ after → more ≡ copy ++ encode (printed_byte c) → more ++ printed after ≡ text
+pub printable_step : (copy more rest after text : List ℕ) (c : ℕ) → copy ++ printed rest ≡ text
+    → rest ≡ encode c ++ after → more ≡ copy ++ encode (printed_byte c) → more ++ printed after ≡ text
 printable_step copy more rest after text c so_far splits is =
-    let front : printed (encode c ++ after) ≡ encode (printed_byte c) ++ printed after = map-append printed_byte (encode c) after ∙ ap (λ x. x ++ printed after) (printable_encode c) in
-    ap (λ x. x ++ printed after) is ∙ append_assoc copy (encode (printed_byte c)) (printed after) ∙ ap (λ x. copy ++ x) (sym (ap printed splits ∙ front)) ∙ so_far
+    let front : printed (encode c ++ after) ≡ encode (printed_byte c) ++ printed after =
+    map-append printed_byte (encode c) after ∙ ap (λ x. x ++ printed after) (printable_encode c) in
+    ap (λ x. x ++ printed after) is ∙ append_assoc copy (encode (printed_byte c)) (printed after)
+    ∙ ap (λ x. copy ++ x) (sym (ap printed splits ∙ front)) ∙ so_far

@@ -6,7 +6,8 @@ use Rattle.hex.proofs.Pairs.{encode_with-drop}
 
 -- with the two digits of one byte more, the text goes on to the same end with the bytes behind it
 pub hex_more : (bytes old one two w : List ℕ) (i : ℕ) → i < length bytes → old ++ encode_lower (drop i bytes) ≡ w
-    → one ≡ old ++ slice_index lower_digits (slice_index bytes i / 16) ∷ [] → two ≡ one ++ slice_index lower_digits (slice_index bytes i % 16) ∷ []
+    → one ≡ old ++ slice_index lower_digits (slice_index bytes i / 16) ∷ []
+    → two ≡ one ++ slice_index lower_digits (slice_index bytes i % 16) ∷ []
     → two ++ encode_lower (drop (i + 1) bytes) ≡ w
 hex_more bytes old one two w i below so_far first second =
     let rest = encode_with-drop lower_digits bytes i below in

@@ -15,7 +15,8 @@ none_of false true z h = absurd (cc (h))
 none_of false false true h = absurd (cc (h))
 
 -- a plain byte stands before the rest as it is
-plain_first : (b : ℕ) (s : List ℕ) → is_plain b ≡ true → compact_text (string (b ∷ s)) ≡ 34 ∷ b ∷ drop 1 (compact_text (string s))
+plain_first : (b : ℕ) (s : List ℕ) → is_plain b ≡ true
+    → compact_text (string (b ∷ s)) ≡ 34 ∷ b ∷ drop 1 (compact_text (string s))
 unfolding serde_json_on_literals
 plain_first b s h =
     let fails = none_of (nat_lt b 32) (b == 34) (b == 92) h in

@@ -1,5 +1,6 @@
 // The lines of reports on what is built into a media file.
-ghost use Rattle.std.specs.Prelude.{◌≡◌, IfOk, string_bytes};
+ghost use Rattle.std.specs.Prelude.{◌≡◌, IfOk, decimal, string_bytes};
+ghost use Rattle.c2_compare_spec.specs.EvidenceText.{printed};
 ghost use Rattle.c2_texts.specs.Builds as form;
 
 use crate::control::printable;
@@ -66,13 +67,21 @@ pub fn parent_fails_line(alloc: Global, code: Code, uri: &str) -> Result<String,
     Ok(text)
 }
 
+// The line of what is refused by this name, with a label behind it that has `?` for control bytes.
+fn labelled_line(alloc: Global, name: &str, label: &str) -> Result<String, AllocError>
+    ensures { let line = form.build_line name.now (form.spaced (printed label.now)) in
+        IfOk result (λ text. string_bytes text ≡ line) }
+{
+    let label = printable(alloc, label)?;
+    let text = format!(in alloc; "build {name} {label}\n")?;
+    Ok(text)
+}
+
 /// The line of a label that a manifest of the older store has, with `?` for control bytes.
 pub fn label_taken_line(alloc: Global, label: &str) -> Result<String, AllocError>
     ensures { IfOk result (λ text. string_bytes text ≡ form.label_taken_line label.now) }
 {
-    let label = printable(alloc, label)?;
-    let text = format!(in alloc; "build LabelTaken {label}\n")?;
-    Ok(text)
+    labelled_line(alloc, "LabelTaken", label)
 }
 
 /// The line of a redaction that is refused: its text, with `?` for control bytes, and the code of the rule that forbids it.
@@ -90,12 +99,20 @@ pub fn redaction_refused_line(
     Ok(text)
 }
 
+// The line of what is refused by this name, with one number behind it.
+fn numbered_line(alloc: Global, name: &str, number: u64) -> Result<String, AllocError>
+    ensures { let line = form.build_line name.now (form.spaced (decimal number)) in
+        IfOk result (λ text. string_bytes text ≡ line) }
+{
+    let text = format!(in alloc; "build {name} {number}\n")?;
+    Ok(text)
+}
+
 /// The line of media whose last root box is open: the place where it begins.
 pub fn open_box_line(alloc: Global, place: u64) -> Result<String, AllocError>
     ensures { IfOk result (λ text. string_bytes text ≡ form.open_box_line place) }
 {
-    let text = format!(in alloc; "build OpenBox {place}\n")?;
-    Ok(text)
+    numbered_line(alloc, "OpenBox", place)
 }
 
 /// The line of media among whose packets no box instance number is free.
@@ -109,24 +126,21 @@ pub fn no_instance_line(alloc: Global) -> Result<String, AllocError>
 pub fn too_many_manifests_line(alloc: Global, count: u64) -> Result<String, AllocError>
     ensures { IfOk result (λ text. string_bytes text ≡ form.too_many_manifests_line count) }
 {
-    let text = format!(in alloc; "build TooManyManifests {count}\n")?;
-    Ok(text)
+    numbered_line(alloc, "TooManyManifests", count)
 }
 
 /// The line of a new store that would have too many bytes: how many.
 pub fn store_too_large_line(alloc: Global, length: u64) -> Result<String, AllocError>
     ensures { IfOk result (λ text. string_bytes text ≡ form.store_too_large_line length) }
 {
-    let text = format!(in alloc; "build StoreTooLarge {length}\n")?;
-    Ok(text)
+    numbered_line(alloc, "StoreTooLarge", length)
 }
 
 /// The line of a reserve that is too small for the signed message: how many bytes are needed.
 pub fn reserve_too_small_line(alloc: Global, needed: u64) -> Result<String, AllocError>
     ensures { IfOk result (λ text. string_bytes text ≡ form.reserve_too_small_line needed) }
 {
-    let text = format!(in alloc; "build ReserveTooSmall {needed}\n")?;
-    Ok(text)
+    numbered_line(alloc, "ReserveTooSmall", needed)
 }
 
 /// The line of media of another container than BMFF.
@@ -147,32 +161,28 @@ pub fn has_store_line(alloc: Global) -> Result<String, AllocError>
 pub fn offset_table_line(alloc: Global, place: u64) -> Result<String, AllocError>
     ensures { IfOk result (λ text. string_bytes text ≡ form.offset_table_line place) }
 {
-    let text = format!(in alloc; "build OffsetTable {place}\n")?;
-    Ok(text)
+    numbered_line(alloc, "OffsetTable", place)
 }
 
 /// The line of a box on the path to the chunk tables whose payload is no list of boxes: where it begins.
 pub fn bad_tree_line(alloc: Global, place: u64) -> Result<String, AllocError>
     ensures { IfOk result (λ text. string_bytes text ≡ form.bad_tree_line place) }
 {
-    let text = format!(in alloc; "build BadTree {place}\n")?;
-    Ok(text)
+    numbered_line(alloc, "BadTree", place)
 }
 
 /// The line of a chunk table that hasn't its form: where it begins.
 pub fn bad_table_line(alloc: Global, place: u64) -> Result<String, AllocError>
     ensures { IfOk result (λ text. string_bytes text ≡ form.bad_table_line place) }
 {
-    let text = format!(in alloc; "build BadTable {place}\n")?;
-    Ok(text)
+    numbered_line(alloc, "BadTable", place)
 }
 
 /// The line of a field of a chunk table that can't hold the moved place: where the field begins.
 pub fn overflow_line(alloc: Global, place: u64) -> Result<String, AllocError>
     ensures { IfOk result (λ text. string_bytes text ≡ form.overflow_line place) }
 {
-    let text = format!(in alloc; "build Overflow {place}\n")?;
-    Ok(text)
+    numbered_line(alloc, "Overflow", place)
 }
 
 /// The line of another media file that isn't accepted, with what its check answers.
@@ -188,7 +198,5 @@ pub fn other_refused_line(alloc: Global, told: &Answer) -> Result<String, AllocE
 pub fn label_clash_line(alloc: Global, label: &str) -> Result<String, AllocError>
     ensures { IfOk result (λ text. string_bytes text ≡ form.label_clash_line label.now) }
 {
-    let label = printable(alloc, label)?;
-    let text = format!(in alloc; "build LabelClash {label}\n")?;
-    Ok(text)
+    labelled_line(alloc, "LabelClash", label)
 }

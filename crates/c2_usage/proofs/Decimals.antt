@@ -6,16 +6,12 @@ use Rattle.std.specs.Str.Parse.{AllDigits, IsNumeral, digits_value, without_lead
 use Rattle.std.proofs.lemmas.Str.{digit_value_digit}
 use Rattle.c2_usage.specs.CommandLine.{is_number, pieces_of, zero_digit}
 use Rattle.c2_usage.specs.declared.types.TheConstants.{MAX_PIECES}
-
--- both parts of a test hold
-both : (a b : Bool) → (a && b) ≡ true → (a ≡ true) × (b ≡ true)
-both true b e = (refl, e)
-both false b e = absurd (true≢false (sym e))
+use Rattle.c2_lemmas.proofs.Bools.{both_true}
 
 -- the value of a digit is below ten
 digit_below : (c : ℕ) → is_ascii_digit c ≡ true → digit_value c < 10
 digit_below c e =
-    let p = both (nat_le 48 c) (nat_le c 57) e in
+    let p = both_true (nat_le 48 c) (nat_le c 57) e in
     let high : c ≤ 57 = leb-true c 57 p.1 in
     let is = digit_value_digit c (leb-true 48 c p.0, high) in
     omega (arith, is, high)
@@ -23,15 +19,15 @@ digit_below c e =
 -- digits are digits to the parser
 all_digits : (word : List ℕ) → list_all is_ascii_digit word ≡ true → AllDigits 10 word
 all_digits [] e = tt
-all_digits (c ∷ cs) e = let p = both (is_ascii_digit c) (list_all is_ascii_digit cs) e in (digit_below c p.0, all_digits cs p.1)
+all_digits (c ∷ cs) e = let p = both_true (is_ascii_digit c) (list_all is_ascii_digit cs) e in (digit_below c p.0, all_digits cs p.1)
 
 -- a number begins with no plus
 no_plus : (word : List ℕ) → is_number word ≡ true → without_leading_plus word ≡ word
 no_plus [] e = absurd (true≢false (sym e))
 no_plus (c ∷ cs) e =
-    let p = both (not (c == zero_digit)) _ e in
-    let q = both (is_ascii_digit c) _ p.1 in
-    let r = both (nat_le 48 c) (nat_le c 57) q.0 in
+    let p = both_true (not (c == zero_digit)) _ e in
+    let q = both_true (is_ascii_digit c) _ p.1 in
+    let r = both_true (nat_le 48 c) (nat_le c 57) q.0 in
     go (c == 43) (λ same. let at : c ≡ 43 = eqb-true c 43 same in let low : 48 ≤ c = leb-true 48 c r.0 in omega (arith, low, at))
   where
     go : (b : Bool) → (b ≡ true → ⊥) → drop (cond b 1 0) (c ∷ cs) ≡ c ∷ cs
@@ -41,7 +37,7 @@ no_plus (c ∷ cs) e =
 -- a number is one to the parser
 numeral : (word : List ℕ) → is_number word ≡ true → IsNumeral 10 word
 numeral [] e = absurd (true≢false (sym e))
-numeral (c ∷ cs) e = (omega arith, all_digits (c ∷ cs) (both (not (c == zero_digit)) _ e).1)
+numeral (c ∷ cs) e = (omega arith, all_digits (c ∷ cs) (both_true (not (c == zero_digit)) _ e).1)
 
 -- what the parser refuses asks for no pieces
 pub refused_number : (word : List ℕ) → is_number word ≡ true

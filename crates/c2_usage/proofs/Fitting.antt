@@ -15,11 +15,9 @@ use Rattle.c2_usage.specs.declared.types.Command.TheVariants as command
 use Rattle.c2_usage.specs.declared.types.Role.{Role}
 use Rattle.c2_usage.specs.declared.types.Role.TheVariants.{Media, Other, Definition, Signature, Collected, Out, Count, Algorithm, Judges}
 use Rattle.c2_usage.specs.declared.types.Roles.{Roles}
-use Rattle.c2_usage.proofs.Walking.{both, ends_well, goes, goes_well, judges_at, judges_go, judges_used, judging, level, start}
-
--- where there is none, there isn't some value
-some≢none : {A : Type 0} (x : A) → None ≡ Some x → ⊥
-some≢none x e = true≢false (sym (ap (λ o. is_some o) e))
+use Rattle.c2_usage.proofs.Walking.{ends_well, goes, goes_well, judges_at, judges_go, judges_used, judging, level, start}
+use Rattle.c2_lemmas.proofs.Bools.{both_true}
+use Rattle.c2_lemmas.proofs.Options.{none_some}
 
 -- ---- the words behind the command
 
@@ -45,7 +43,8 @@ rows_after l words = (settled l.rules (goes l.rules start words).held).rows
 
 -- the rest of a level's tests, once what is pending is used
 abbrev rest_passes : Shape → ℕ → List Row → List Text → Bool
-rest_passes l k rows vs = list_all default_passes l.rules && is_valid l (finished l.rules (judging k rows vs).held) false
+rest_passes l k rows vs =
+    list_all default_passes l.rules && is_valid l (finished l.rules (judging k rows vs).held) false
 
 -- names of judges are taken at the end, where a name of one is met and what is found before passes
 judged : (l : Shape) (k : ℕ) (rows : List Row) (words : List Text) (j : Text) (js : List Text)
@@ -100,14 +99,14 @@ out_taken name (m ∷ (s ∷ (t ∷ (o ∷ (j ∷ js))))) e = let l = built_as n
 count_taken : TakesFit (Count ∷ [])
 count_taken name [] e = no_words e
 count_taken name (n ∷ []) e = (refl, refl)
-count_taken name (n ∷ (x ∷ xs)) e = absurd (true≢false (sym (both _ false e).1))
+count_taken name (n ∷ (x ∷ xs)) e = absurd (true≢false (sym (both_true _ false e).1))
 
 -- a media file, and an algorithm or none
 algorithm_taken : TakesFit (Media ∷ Algorithm ∷ [])
 algorithm_taken name [] e = no_words e
 algorithm_taken name (m ∷ []) e = (refl, refl)
 algorithm_taken name (m ∷ (a ∷ [])) e = (refl, refl)
-algorithm_taken name (m ∷ (a ∷ (x ∷ xs))) e = absurd (true≢false (sym (both _ false e).1))
+algorithm_taken name (m ∷ (a ∷ (x ∷ xs))) e = absurd (true≢false (sym (both_true _ false e).1))
 
 -- a media file and a new one
 new_taken : TakesFit (Media ∷ Out ∷ [])
@@ -170,18 +169,19 @@ taken command.PlanCollect = collected_taken
 taken command.EmbedCollect = four_taken
 
 -- where there are roles, the words fit
-with_roles : (c : Command) (words : List Text) (roles : Roles) → roles_with c words ≡ Some roles → fit (words_of c) words ≡ true
+with_roles : (c : Command) (words : List Text) (roles : Roles) → roles_with c words ≡ Some roles
+    → fit (words_of c) words ≡ true
 with_roles c words roles e = go (fit (words_of c) words) e
   where
     go : (b : Bool) → cond b (Some (roles_as c words)) None ≡ Some roles → b ≡ true
     go true h = refl
-    go false h = absurd (some≢none roles h)
+    go false h = absurd (none_some roles h)
 
 -- ---- the word of the command
 
 -- what is found passes the test
 passes : (p : Command → Bool) (cs : List Command) (c : Command) → find p cs ≡ Some c → p c ≡ true
-passes p [] c e = absurd (some≢none c e)
+passes p [] c e = absurd (none_some c e)
 passes p (x ∷ xs) c e = go (p x) refl (λ h. passes p xs c h) e
   where
     go : (b : Bool) → p x ≡ b → (find p xs ≡ Some c → p c ≡ true) → cond b (Some x) (find p xs) ≡ Some c → p c ≡ true
@@ -206,8 +206,9 @@ names = names_of whole
 abbrev stopped : Text → List Text → Walk
 stopped name vs = record (walk_from nothing_held) { stopped = Some (name, vs) }
 
--- it only takes up the words from there on
-takes_up : (name : Text) (vs rest : List Text) → (walk_passes whole.top names (stopped name vs) rest ≡ true) × (fold (walked whole.top.rules names) (stopped name vs) rest ≡ stopped name (vs ++ rest))
+-- the walk that has met a subcommand only takes up the words from there on
+takes_up : (name : Text) (vs rest : List Text)
+    → (walk_passes whole.top names (stopped name vs) rest ≡ true) × (fold (walked whole.top.rules names) (stopped name vs) rest ≡ stopped name (vs ++ rest))
 unfolding walked walk_passes
 takes_up name vs [] = (refl, ap (stopped name) (sym (append-nil vs)))
 takes_up name vs (w ∷ ws) =
@@ -253,7 +254,8 @@ found_passes o words =
     && (true && (true && (true && is_valid whole.top [] (is_some (option_map (λ s. rows_at s words) o)))))
 
 -- words behind a command that the command takes are taken
-whole_takes : (c : Command) (words : List Text) → level_passes (built_of c) [] nothing_held words false ≡ true → takes command_line (name_of c ∷ words) ≡ true
+whole_takes : (c : Command) (words : List Text) → level_passes (built_of c) [] nothing_held words false ≡ true
+    → takes command_line (name_of c ∷ words) ≡ true
 unfolding walk_passes
 whole_takes c words below =
     let next = takes_up (name_of c) [] words in
@@ -261,7 +263,8 @@ whole_takes c words below =
     = ap (λ (w : Walk). fold (walked whole.top.rules names) w words) (met c).stops ∙ next.1 in
     let passes : walk_passes whole.top names (walk_from nothing_held) (name_of c ∷ words) ≡ true
     = ap₂ (λ (x y : Bool). x && y) (met c).turned (ap (λ (w : Walk). walk_passes whole.top names w words) (met c).stops ∙ next.0) in
-    ap (λ (w : Walk). stopped_passes w (walk_passes whole.top names (walk_from nothing_held) (name_of c ∷ words))) walk_is
+    ap (λ (w : Walk). stopped_passes w (walk_passes whole.top names (walk_from nothing_held) (name_of c ∷ words)))
+    walk_is
     ∙ ap (stopped_passes (stopped (name_of c) words)) passes
     ∙ ap (λ (o : Option Shape). found_passes o words) (met c).found
     ∙ ap (λ (b : Bool). b && true) below
@@ -269,18 +272,22 @@ whole_takes c words below =
 -- ---- all words
 
 -- words that fit are taken
-pub fitting : (words : List Text) (roles : Roles) → list_all is_name words ≡ true → roles_of_names words ≡ Some roles → takes command_line words ≡ true
-fitting [] roles all e = absurd (some≢none roles e)
+pub fitting : (words : List Text) (roles : Roles) → list_all is_name words ≡ true → roles_of_names words ≡ Some roles
+    → takes command_line words ≡ true
+fitting [] roles all e = absurd (none_some roles e)
 fitting (first ∷ words) roles all e = go (command_of first) refl e
   where
-    go : (o : Option Command) → command_of first ≡ o → option_and_then (λ c. roles_with c words) o ≡ Some roles → takes command_line (first ∷ words) ≡ true
-    go None at e = absurd (some≢none roles e)
+    go : (o : Option Command) → command_of first ≡ o → option_and_then (λ c. roles_with c words) o ≡ Some roles
+        → takes command_line (first ∷ words) ≡ true
+    go None at e = absurd (none_some roles e)
     go (Some c) at e =
         ap (λ (t : Text). takes command_line (t ∷ words)) (named first c at)
-        ∙ whole_takes c words (level (built_of c) words (both (is_name first) (list_all is_name words) all).1 (taken c (name_of c) words (with_roles c words roles e)))
+        ∙ whole_takes c words
+        (level (built_of c) words (both_true (is_name first) (list_all is_name words) all).1 (taken c (name_of c) words (with_roles c words roles e)))
 
--- so words that aren't taken don't fit
-pub unfit : (words : List Text) → list_all is_name words ≡ true → (takes command_line words ≡ true → ⊥) → roles_of_names words ≡ None
+-- words that aren't taken don't fit
+pub unfit : (words : List Text) → list_all is_name words ≡ true → (takes command_line words ≡ true → ⊥)
+    → roles_of_names words ≡ None
 unfit words all refused = go (roles_of_names words) refl
   where
     go : (o : Option Roles) → roles_of_names words ≡ o → roles_of_names words ≡ None

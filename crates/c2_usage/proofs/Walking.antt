@@ -9,16 +9,7 @@ use Rattle.clap.specs.Simple.{Shape, filled, with_index}
 use Rattle.clap.specs.Takes.{bundle_passes, default_passes, is_valid, level_passes, positional_passes, settle_passes, step_passes, turn_passes, use_passes, value_passes, walk_passes, word_passes}
 use Rattle.c2_usage.specs.CommandLine.{is_name}
 use Rattle.c2_usage.specs.Parsing.{judge_words}
-
--- both parts of a test hold
-pub both : (a b : Bool) → (a && b) ≡ true → (a ≡ true) × (b ≡ true)
-both true b e = (refl, e)
-both false b e = absurd (true≢false (sym e))
-
--- a test whose denial holds doesn't
-pub denied : (b : Bool) → not b ≡ true → b ≡ false
-denied true e = absurd (true≢false (sym e))
-denied false e = refl
+use Rattle.c2_lemmas.proofs.Bools.{both_true, not_true_is_false}
 
 -- ---- names
 
@@ -34,9 +25,10 @@ waiting_at several = if several then positional else idle
 
 -- the walk of `clap` there
 abbrev pub as_walk : Stand → Walk
-as_walk s = record { held = s.held; waiting = waiting_at s.several; position = s.position; is_trailing = false; stopped = None }
+as_walk s =
+    record { held = s.held; waiting = waiting_at s.several; position = s.position; is_trailing = false; stopped = None }
 
--- and where it takes every word from there on as a value, or not
+-- the walk of `clap` at a stand where it takes every word from there on as a value, or doesn't
 abbrev trailing : Stand → Bool → Walk
 trailing s t = record (as_walk s) { is_trailing = t }
 
@@ -47,7 +39,8 @@ start = record { held = nothing_held; several = false; position = 1 }
 -- after one more name, which goes to this positional
 abbrev pub after : List Rule → Option Rule → Text → Stand → Stand
 after c None word s = s
-after c (Some a) word s = record { held = positional_held c a word s.held; several = is_multiple a; position = next_position a s.position }
+after c (Some a) word s =
+    record { held = positional_held c a word s.held; several = is_multiple a; position = next_position a s.position }
 
 -- after all names
 abbrev pub goes : List Rule → Stand → List Text → Stand
@@ -62,38 +55,53 @@ takes_one l s (Some a) = not a.trailing_var_arg && positional_passes l.rules l.a
 -- each name goes to a positional that takes it
 abbrev pub goes_well : Shape → Stand → List Text → Bool
 goes_well l s [] = true
-goes_well l s (word ∷ rest) = takes_one l s (arg_by_index l.rules s.position) && goes_well l (after l.rules (arg_by_index l.rules s.position) word s) rest
+goes_well l s (word ∷ rest) =
+    takes_one l s (arg_by_index l.rules s.position) && goes_well l
+    (after l.rules (arg_by_index l.rules s.position) word s) rest
 
 -- a name has no dash to take off
 no_flags : (b : ℕ) (bs : Text) → (b == 45) ≡ false → short_of (b ∷ bs) ≡ None
 no_flags b bs e = ap (λ (t : Bool). option_and_then short_of_rest (cond t (Some bs) None)) e
 
 -- a name is no flag and no subcommand
-met_name : (c : List Rule) (several : Bool) (p b : ℕ) (bs : Text) (h : Held) → (b == 45) ≡ false → ◌≡◌ {A = Held × Step} (word_met c [] false (waiting_at several) p (b ∷ bs) h) (h, value)
+met_name : (c : List Rule) (several : Bool) (p b : ℕ) (bs : Text) (h : Held) → (b == 45) ≡ false
+    → ◌≡◌ {A = Held × Step} (word_met c [] false (waiting_at several) p (b ∷ bs) h) (h, value)
 met_name c true p b bs h e = rw e (ap (λ (o : Option Text). short_or_plain c positional (b ∷ bs) o h) (no_flags b bs e))
 met_name c false p b bs h e = rw e (ap (λ (o : Option Text). short_or_plain c idle (b ∷ bs) o h) (no_flags b bs e))
 
--- nor a call for help
-passes_name : (l : Shape) (several : Bool) (b : ℕ) (bs : Text) (h : Held) → (b == 45) ≡ false → word_passes l [] false (waiting_at several) (b ∷ bs) h ≡ true
-passes_name l true b bs h e = rw e (ap (λ (o : Option Text). option_map_or (λ (flags : Text). bundle_passes l.rules l.args_override_self flags h) o true) (no_flags b bs e))
-passes_name l false b bs h e = rw e (ap (λ (o : Option Text). option_map_or (λ (flags : Text). bundle_passes l.rules l.args_override_self flags h) o true) (no_flags b bs e))
+-- a name is no call for help
+passes_name : (l : Shape) (several : Bool) (b : ℕ) (bs : Text) (h : Held) → (b == 45) ≡ false
+    → word_passes l [] false (waiting_at several) (b ∷ bs) h ≡ true
+passes_name l true b bs h e =
+    rw e
+    (ap (λ (o : Option Text). option_map_or (λ (flags : Text). bundle_passes l.rules l.args_override_self flags h) o true) (no_flags b bs e))
+passes_name l false b bs h e =
+    rw e
+    (ap (λ (o : Option Text). option_map_or (λ (flags : Text). bundle_passes l.rules l.args_override_self flags h) o true) (no_flags b bs e))
 
--- so the walk goes on with it at a positional
-walks_on : (l : Shape) (s : Stand) (b : ℕ) (bs : Text) (a : Rule) → (b == 45) ≡ false → arg_by_index l.rules s.position ≡ Some a → a.trailing_var_arg ≡ false
+-- the walk goes on with a name at a positional
+walks_on : (l : Shape) (s : Stand) (b : ℕ) (bs : Text) (a : Rule) → (b == 45) ≡ false
+    → arg_by_index l.rules s.position ≡ Some a → a.trailing_var_arg ≡ false
     → walked l.rules [] (as_walk s) (b ∷ bs) ≡ as_walk (after l.rules (Some a) (b ∷ bs) s)
 unfolding walked
 walks_on l s b bs a e at plain =
-    ap (λ (m : Held × Step). after_step l.rules (b ∷ bs) (as_walk s) m.0 m.1) (met_name l.rules s.several s.position b bs s.held e)
+    ap (λ (m : Held × Step). after_step l.rules (b ∷ bs) (as_walk s) m.0 m.1)
+    (met_name l.rules s.several s.position b bs s.held e)
     ∙ ap (λ (o : Option Rule). to_positional l.rules o (b ∷ bs) (as_walk s) s.held) at
     ∙ ap (trailing (after l.rules (Some a) (b ∷ bs) s)) plain
 
--- and passes there
-turns : (l : Shape) (s : Stand) (b : ℕ) (bs : Text) (a : Rule) → (b == 45) ≡ false → arg_by_index l.rules s.position ≡ Some a → positional_passes l.rules l.args_override_self a s.held ≡ true
+-- the walk passes with a name at a positional
+turns : (l : Shape) (s : Stand) (b : ℕ) (bs : Text) (a : Rule) → (b == 45) ≡ false
+    → arg_by_index l.rules s.position ≡ Some a → positional_passes l.rules l.args_override_self a s.held ≡ true
     → turn_passes l [] (as_walk s) (b ∷ bs) ≡ true
 turns l s b bs a e at passes =
-    ap (λ (m : Held × Step). word_passes l [] false (waiting_at s.several) (b ∷ bs) s.held && step_passes l s.position m.0 m.1) (met_name l.rules s.several s.position b bs s.held e)
+    ap
+    (λ (m : Held × Step). word_passes l [] false (waiting_at s.several) (b ∷ bs) s.held && step_passes l s.position m.0 m.1)
+    (met_name l.rules s.several s.position b bs s.held e)
     ∙ ap (λ (x : Bool). x && step_passes l s.position s.held value) (passes_name l s.several b bs s.held e)
-    ∙ ap (λ (o : Option Rule). option_map_or (λ (r : Rule). positional_passes l.rules l.args_override_self r s.held) o false) at
+    ∙ ap
+    (λ (o : Option Rule). option_map_or (λ (r : Rule). positional_passes l.rules l.args_override_self r s.held) o false)
+    at
     ∙ passes
 
 -- names that go well are walked over
@@ -103,11 +111,14 @@ unfolding walk_passes
 walks l s [] names well = (refl, refl)
 walks l s ([] ∷ rest) names well = absurd (true≢false (sym names))
 walks l s ((b ∷ bs) ∷ rest) names well =
-    let named = both (not (b == 45)) (list_all is_name rest) names in
-    go (denied (b == 45) named.0) (arg_by_index l.rules s.position) refl (λ a. walks l (after l.rules (Some a) (b ∷ bs) s) rest named.1) well
+    let named = both_true (not (b == 45)) (list_all is_name rest) names in
+    go (not_true_is_false (b == 45) named.0) (arg_by_index l.rules s.position) refl
+    (λ a. walks l (after l.rules (Some a) (b ∷ bs) s) rest named.1) well
   where
     Walked : Type 0
-    Walked = (walk_passes l [] (as_walk s) ((b ∷ bs) ∷ rest) ≡ true) × (fold (walked l.rules []) (as_walk s) ((b ∷ bs) ∷ rest) ≡ as_walk (goes l.rules s ((b ∷ bs) ∷ rest)))
+    Walked =
+        (walk_passes l [] (as_walk s) ((b ∷ bs) ∷ rest) ≡ true)
+        × (fold (walked l.rules []) (as_walk s) ((b ∷ bs) ∷ rest) ≡ as_walk (goes l.rules s ((b ∷ bs) ∷ rest)))
 
     Next : Rule → Type 0
     Next a = goes_well l (after l.rules (Some a) (b ∷ bs) s) rest ≡ true
@@ -118,9 +129,9 @@ walks l s ((b ∷ bs) ∷ rest) names well =
         → (takes_one l s o && goes_well l (after l.rules o (b ∷ bs) s) rest) ≡ true → Walked
     go e None at next w = absurd (true≢false (sym w))
     go e (Some a) at next w =
-        let p = both (takes_one l s (Some a)) (goes_well l (after l.rules (Some a) (b ∷ bs) s) rest) w in
-        let q = both (not a.trailing_var_arg) (positional_passes l.rules l.args_override_self a s.held) p.0 in
-        let step = walks_on l s b bs a e at (denied a.trailing_var_arg q.0) in
+        let p = both_true (takes_one l s (Some a)) (goes_well l (after l.rules (Some a) (b ∷ bs) s) rest) w in
+        let q = both_true (not a.trailing_var_arg) (positional_passes l.rules l.args_override_self a s.held) p.0 in
+        let step = walks_on l s b bs a e at (not_true_is_false a.trailing_var_arg q.0) in
         let more = next a p.1 in (
           ap₂ (λ (x y : Bool). x && y) (turns l s b bs a e at q.1) (ap (λ (w : Walk). walk_passes l [] w rest) step ∙ more.0),
           ap (λ (w : Walk). fold (walked l.rules []) w rest) step ∙ more.1 ∙ ap (λ (o : Option Rule). as_walk (goes l.rules (after l.rules o (b ∷ bs) s) rest)) (sym at),
@@ -128,10 +139,13 @@ walks l s ((b ∷ bs) ∷ rest) names well =
 
 -- nothing is missing after the last name
 abbrev pub ends_well : Shape → Held → Bool
-ends_well l end = settle_passes l.rules l.args_override_self end && (list_all default_passes l.rules && is_valid l (finished l.rules end) false)
+ends_well l end =
+    settle_passes l.rules l.args_override_self end
+    && (list_all default_passes l.rules && is_valid l (finished l.rules end) false)
 
 -- names that go well and end well are taken
-pub level : (l : Shape) (words : List Text) → list_all is_name words ≡ true → (goes_well l start words ≡ true) × (ends_well l (goes l.rules start words).held ≡ true)
+pub level : (l : Shape) (words : List Text) → list_all is_name words ≡ true
+    → (goes_well l start words ≡ true) × (ends_well l (goes l.rules start words).held ≡ true)
     → level_passes l [] nothing_held words false ≡ true
 level l words names well =
     let w = walks l start words names well.0 in
@@ -147,10 +161,12 @@ judges_at k = with_index k (filled judge_words)
 
 -- the walk stands so while names of judges come
 abbrev pub judging : ℕ → List Row → List Text → Stand
-judging k rows vs = record { held = record { rows = rows; pending = Some (codes "JUDGE", vs); skip = 0 }; several = true; position = k }
+judging k rows vs =
+    record { held = record { rows = rows; pending = Some (codes "JUDGE", vs); skip = 0 }; several = true; position = k }
 
--- they all go there
-pub judges_go : (l : Shape) (k : ℕ) (rows : List Row) → arg_by_index l.rules k ≡ Some (judges_at k) → (vs ws : List Text)
+-- all texts go to the names of judges while they come
+pub judges_go : (l : Shape) (k : ℕ) (rows : List Row) → arg_by_index l.rules k ≡ Some (judges_at k)
+    → (vs ws : List Text)
     → (goes_well l (judging k rows vs) ws ≡ true) × (goes l.rules (judging k rows vs) ws ≡ judging k rows (vs ++ ws))
 judges_go l k rows at vs [] = (refl, ap (judging k rows) (sym (append-nil vs)))
 judges_go l k rows at vs (w ∷ ws) =
@@ -164,8 +180,9 @@ all_texts : (k : ℕ) (vs : List Text) → list_all (value_passes (judges_at k))
 all_texts k [] = refl
 all_texts k (v ∷ vs) = all_texts k vs
 
--- and they are used as names of judges
-pub judges_used : (again : Bool) (k : ℕ) (rows : List Row) (j : Text) (js : List Text) → length js ≤ 64 → use_passes again (judges_at k) (j ∷ js) rows ≡ true
+-- texts are used as names of judges
+pub judges_used : (again : Bool) (k : ℕ) (rows : List Row) (j : Text) (js : List Text) → length js ≤ 64
+    → use_passes again (judges_at k) (j ∷ js) rows ≡ true
 judges_used again k rows j js few =
     let least : nat_le 1 (suc (length js)) ≡ true = le-leb 1 (suc (length js)) (omega arith) in
     let most : nat_le (suc (length js)) usize_max ≡ true = le-leb (suc (length js)) usize_max (omega (arith, few)) in

@@ -1,4 +1,5 @@
 -- The answer of the check with an external store.
+use Rattle.c2_opening.proofs.TheLaws.{one_opening_store}
 use Rattle.std.proofs.Common.{◌≡◌, ℕ, ◌<◌, ◌^◌, Bool, true, false, List, [], length, nat_lt, All, Result, Ok, Err, IfOk, sym, ap, ◌∙◌, subst}
 use Rattle.std.specs.Bool.{MatchBool}
 use Rattle.c2_base.specs.declared.limits.TheConstants.{MAX_STORE_LEN}
@@ -27,77 +28,115 @@ use Rattle.c2_opening.specs.declared.types.StoreRead.TheVariants as read
 use Rattle.c2_validate.specs.External.{ExternalAsks, IsExternalAnswer, IsAnsweredExternal, IsListAnswered, IsLocatedAnswer, IsStoreAnswer, IsExternalStore, ListAsks, LocatedAsks}
 use Rattle.c2_validate.specs.declared.external.External.{External}
 use Rattle.c2_validate.specs.declared.external.External.TheVariants.{Of, StoreRefused}
-use Rattle.c2_validate.proofs.FileLemmas.{AnswersOver, ContainsMedia, OneReading, tree_answered, tree_asks}
-use Rattle.c2_validate.proofs.OneExternal.{OneStore}
+use Rattle.c2_validate.proofs.FileLemmas.{AnswersOver, tree_answered, tree_asks}
 
 -- ---- a list that was read
 
--- what it is opened as is what was read
-seen : OneStore → (store : List ℕ) (r : StoreRead) (what : Opening Tree) → nat_lt MAX_STORE_LEN (length store) ≡ false → IsReadFrom store r → IsExternalStore store what → what ≡ tree_of (record { start = 0; length = 0; store = store }) r
-seen one store r what small h k =
-    let whole : IsManifestStore 0 0 store what = subst (λ (b : Bool). MatchBool b (what ≡ refused StoreTooLarge (length store)) (IsManifestStore 0 0 store what)) small k in
-    one 0 0 store what (tree_of (record { start = 0; length = 0; store = store }) r) whole (h 0 0).store
+-- what a list is opened as is what was read of it
+seen : (store : List ℕ) (r : StoreRead) (what : Opening Tree) → nat_lt MAX_STORE_LEN (length store) ≡ false
+    → IsReadFrom store r → IsExternalStore store what
+    → what ≡ tree_of (record { start = 0; length = 0; store = store }) r
+seen store r what small h k =
+    let whole : IsManifestStore 0 0 store what =
+    subst
+    (λ (b : Bool). MatchBool b (what ≡ refused StoreTooLarge (length store)) (IsManifestStore 0 0 store what))
+    small k in
+    one_opening_store 0 0 store what (tree_of (record { start = 0; length = 0; store = store }) r) whole (h 0 0).store
 
 -- the boxes of its manifests are those of the tree
 pub boxes_read : (store : List ℕ) (t : Tree) (b : List ManifestBoxes) → IsReadFrom store (read.Here t b) → IsStoreOf t b
 boxes_read store t b h = (h 0 0).boxes
 
 -- a list that is too long is refused
-pub list_too_long : (hash : Alg → List ℕ → List ℕ) (said : Question → Verdict) (c : Container) (store file : List ℕ) → nat_lt MAX_STORE_LEN (length store) ≡ true → IsListAnswered hash said c store file (StoreRefused StoreTooLarge (length store))
+pub list_too_long : (hash : Alg → List ℕ → List ℕ) (said : Question → Verdict) (c : Container) (store file : List ℕ)
+    → nat_lt MAX_STORE_LEN (length store) ≡ true
+    → IsListAnswered hash said c store file (StoreRefused StoreTooLarge (length store))
 list_too_long hash said c store file long contained expected k =
-    let what : k.0 ≡ refused StoreTooLarge (length store) = subst (λ (b : Bool). MatchBool b (k.0 ≡ refused StoreTooLarge (length store)) (IsManifestStore 0 0 store k.0)) long k.1 in
+    let what : k.0 ≡ refused StoreTooLarge (length store) =
+    subst
+    (λ (b : Bool). MatchBool b (k.0 ≡ refused StoreTooLarge (length store)) (IsManifestStore 0 0 store k.0))
+    long k.1 in
     subst (λ (o : Opening Tree). IsStoreAnswer hash said file o expected) what k.2
 
--- and nothing is asked of it
-pub long_asks : (hash : Alg → List ℕ → List ℕ) (store : List ℕ) (said : Question → Verdict) (qs : List Question) → nat_lt MAX_STORE_LEN (length store) ≡ true → ListAsks hash store said qs → qs ≡ []
+-- nothing is asked of a list that is too long
+pub long_asks : (hash : Alg → List ℕ → List ℕ) (store : List ℕ) (said : Question → Verdict) (qs : List Question)
+    → nat_lt MAX_STORE_LEN (length store) ≡ true → ListAsks hash store said qs → qs ≡ []
 long_asks hash store said qs long k =
-    let what : k.0 ≡ refused StoreTooLarge (length store) = subst (λ (b : Bool). MatchBool b (k.0 ≡ refused StoreTooLarge (length store)) (IsManifestStore 0 0 store k.0)) long k.1 in
+    let what : k.0 ≡ refused StoreTooLarge (length store) =
+    subst
+    (λ (b : Bool). MatchBool b (k.0 ≡ refused StoreTooLarge (length store)) (IsManifestStore 0 0 store k.0))
+    long k.1 in
     subst (λ (o : Opening Tree). OpenedAsks (check_asks hash said) o qs) what k.2
 
 -- a list that is refused has that answer
-pub list_refused : OneStore → (hash : Alg → List ℕ → List ℕ) (said : Question → Verdict) (c : Container) (store file : List ℕ) (reason : Reason) (number : ℕ) → nat_lt MAX_STORE_LEN (length store) ≡ false → IsReadFrom store (read.Refused reason number)
+pub list_refused :
+    (hash : Alg → List ℕ → List ℕ) (said : Question → Verdict) (c : Container) (store file : List ℕ) (reason : Reason)
+    (number : ℕ)
+    → nat_lt MAX_STORE_LEN (length store) ≡ false → IsReadFrom store (read.Refused reason number)
     → IsListAnswered hash said c store file (StoreRefused reason number)
-list_refused one hash said c store file reason number small h contained expected k = subst (λ (o : Opening Tree). IsStoreAnswer hash said file o expected) (seen one store (read.Refused reason number) k.0 small h k.1) k.2
+list_refused hash said c store file reason number small h contained expected k =
+    subst (λ (o : Opening Tree). IsStoreAnswer hash said file o expected)
+    (seen store (read.Refused reason number) k.0 small h k.1) k.2
 
--- and nothing is asked of it
-pub refused_asks : OneStore → (hash : Alg → List ℕ → List ℕ) (store : List ℕ) (said : Question → Verdict) (reason : Reason) (number : ℕ) (qs : List Question) → nat_lt MAX_STORE_LEN (length store) ≡ false → IsReadFrom store (read.Refused reason number) → ListAsks hash store said qs → qs ≡ []
-refused_asks one hash store said reason number qs small h k = subst (λ (o : Opening Tree). OpenedAsks (check_asks hash said) o qs) (seen one store (read.Refused reason number) k.0 small h k.1) k.2
+-- nothing is asked of a list that is refused
+pub refused_asks :
+    (hash : Alg → List ℕ → List ℕ) (store : List ℕ) (said : Question → Verdict) (reason : Reason) (number : ℕ)
+    (qs : List Question)
+    → nat_lt MAX_STORE_LEN (length store) ≡ false → IsReadFrom store (read.Refused reason number)
+    → ListAsks hash store said qs → qs ≡ []
+refused_asks hash store said reason number qs small h k =
+    subst (λ (o : Opening Tree). OpenedAsks (check_asks hash said) o qs)
+    (seen store (read.Refused reason number) k.0 small h k.1) k.2
 
 -- the answer over the manifests of the list is that over the list
-pub list_answered : ContainsMedia → OneReading → OneStore
-    → (hash : Alg → List ℕ → List ℕ) (said : Question → Verdict) (c : Container) (store file : List ℕ) (t : Tree)
+pub list_answered : (hash : Alg → List ℕ → List ℕ) (said : Question → Verdict) (c : Container) (store file : List ℕ) (t : Tree)
     (b : List ManifestBoxes) (rs : List Reading) (a : Answer) → nat_lt MAX_STORE_LEN (length store) ≡ false
     → IsReadFrom store (read.Here t b)
-    → AreReadings (manifests_of t) rs → AnswersOver hash said file c 0 0 rs a → IsListAnswered hash said c store file (Of a)
-list_answered media reading one hash said c store file t b rs a small h reads k contained expected l =
-    let there : IsStoreAnswer hash said file (here 0 0 t) expected = subst (λ (w : Opening Tree). IsStoreAnswer hash said file w expected) (seen one store (read.Here t b) l.0 small h l.1) l.2 in
-    there.2 ∙ ap Of (sym (tree_answered media reading hash said file c 0 0 t rs a there.0 contained reads k there.1))
+    → AreReadings (manifests_of t) rs → AnswersOver hash said file c 0 0 rs a
+    → IsListAnswered hash said c store file (Of a)
+list_answered hash said c store file t b rs a small h reads k contained expected l =
+    let there : IsStoreAnswer hash said file (here 0 0 t) expected =
+    subst (λ (w : Opening Tree). IsStoreAnswer hash said file w expected)
+    (seen store (read.Here t b) l.0 small h l.1) l.2 in
+    there.2 ∙ ap Of (sym (tree_answered hash said file c 0 0 t rs a there.0 contained reads k there.1))
 
 -- what is asked over the list is asked over its manifests
-pub list_asks : OneReading → OneStore → (hash : Alg → List ℕ → List ℕ) (store : List ℕ) (said : Question → Verdict)
+pub list_asks : (hash : Alg → List ℕ → List ℕ) (store : List ℕ) (said : Question → Verdict)
     (t : Tree) (b : List ManifestBoxes) (rs : List Reading) (qs : List Question)
     → nat_lt MAX_STORE_LEN (length store) ≡ false → IsReadFrom store (read.Here t b) → AreReadings (manifests_of t) rs
     → ListAsks hash store said qs → qs ≡ check_asks hash said rs
-list_asks reading one hash store said t b rs qs small h reads k =
-    let there = subst (λ (w : Opening Tree). OpenedAsks (check_asks hash said) w qs) (seen one store (read.Here t b) k.0 small h k.1) k.2 in
-    tree_asks reading hash said t rs there.0 qs reads there.1 there.2
+list_asks hash store said t b rs qs small h reads k =
+    let there =
+    subst (λ (w : Opening Tree). OpenedAsks (check_asks hash said) w qs)
+    (seen store (read.Here t b) k.0 small h k.1) k.2 in
+    tree_asks hash said t rs there.0 qs reads there.1 there.2
 
 -- ---- a file
 
 -- each file and each list have an answer
 abbrev pub EachExternal : Type 0
-EachExternal = (hash : Alg → List ℕ → List ℕ) (said : Question → Verdict) (file store : List ℕ) → All (λ b. b < 2 ^ 8) file → All (λ b. b < 2 ^ 8) store → (e : External) × IsExternalAnswer hash said file store e
+EachExternal =
+    (hash : Alg → List ℕ → List ℕ) (said : Question → Verdict) (file store : List ℕ) → All (λ b. b < 2 ^ 8) file → All
+    (λ b. b < 2 ^ 8) store → (e : External) × IsExternalAnswer hash said file store e
 
 -- what a file is as a container follows from what was found
-at_found : (hash : Alg → List ℕ → List ℕ) (said : Question → Verdict) (file store : List ℕ) (o : Opened) (e : External) → IsFound file o → IsExternalAnswer hash said file store e → IsLocatedAnswer hash said file store (located_of o) e
-at_found hash said file store o e h k = subst (λ (l : Located). IsLocatedAnswer hash said file store l e) (h.only k.0 k.1) k.2
+at_found : (hash : Alg → List ℕ → List ℕ) (said : Question → Verdict) (file store : List ℕ) (o : Opened) (e : External)
+    → IsFound file o → IsExternalAnswer hash said file store e → IsLocatedAnswer hash said file store (located_of o) e
+at_found hash said file store o e h k =
+    subst (λ (l : Located). IsLocatedAnswer hash said file store l e) (h.only k.0 k.1) k.2
 
--- so does what is asked
-pub asks_found : (hash : Alg → List ℕ → List ℕ) (store file : List ℕ) (said : Question → Verdict) (o : Opened) (qs : List Question) → IsFound file o → ExternalAsks hash store file said qs → LocatedAsks hash store said (located_of o) qs
-asks_found hash store file said o qs h k = subst (λ (l : Located). LocatedAsks hash store said l qs) (h.only k.0 k.1) k.2
+-- what is asked of a file follows from what was found
+pub asks_found :
+    (hash : Alg → List ℕ → List ℕ) (store file : List ℕ) (said : Question → Verdict) (o : Opened) (qs : List Question)
+    → IsFound file o → ExternalAsks hash store file said qs → LocatedAsks hash store said (located_of o) qs
+asks_found hash store file said o qs h k =
+    subst (λ (l : Located). LocatedAsks hash store said l qs) (h.only k.0 k.1) k.2
 
 -- the answer that any is, is the one
-answered : EachExternal → (hash : Alg → List ℕ → List ℕ) (said : Question → Verdict) (file store : List ℕ) (e : External) → All (λ b. b < 2 ^ 8) file → All (λ b. b < 2 ^ 8) store → ((expected : External) → IsExternalAnswer hash said file store expected → expected ≡ e)
+answered : EachExternal
+    → (hash : Alg → List ℕ → List ℕ) (said : Question → Verdict) (file store : List ℕ) (e : External)
+    → All (λ b. b < 2 ^ 8) file → All (λ b. b < 2 ^ 8) store
+    → ((expected : External) → IsExternalAnswer hash said file store expected → expected ≡ e)
     → IsAnsweredExternal hash said file store e
 answered each hash said file store e bytes held only = let a = each hash said file store bytes held in record { is = subst (IsExternalAnswer hash said file store) (only a.0 a.1) a.1; only = only }
 
@@ -107,19 +146,26 @@ pub external_here : {E : Type 0} → EachExternal → (hash : Alg → List ℕ �
     → All (λ b. b < 2 ^ 8) store → IsFound file (opened.Here m)
     → IfOk r (IsListAnswered hash said m.container store file)
     → IfOk r (IsAnsweredExternal hash said file store)
-external_here each hash said file store m (Ok e) bytes held h k = answered each hash said file store e bytes held (λ expected answers. k h.container expected (at_found hash said file store (opened.Here m) expected h answers))
+external_here each hash said file store m (Ok e) bytes held h k =
+    answered each hash said file store e bytes held
+    (λ expected answers. k h.container expected (at_found hash said file store (opened.Here m) expected h answers))
 external_here each hash said file store m (Err e) bytes held h k = tt
 
--- and of one without
+-- what is answered over the list is answered of a file without a store
 pub external_none : {E : Type 0} → EachExternal → (hash : Alg → List ℕ → List ℕ) (said : Question → Verdict)
     (file store : List ℕ) (c : Container) (r : Result External E) → All (λ b. b < 2 ^ 8) file
     → All (λ b. b < 2 ^ 8) store → IsFound file (opened.NoStore c) → IfOk r (IsListAnswered hash said c store file)
     → IfOk r (IsAnsweredExternal hash said file store)
-external_none each hash said file store c (Ok e) bytes held h k = answered each hash said file store e bytes held (λ expected answers. k h.container expected (at_found hash said file store (opened.NoStore c) expected h answers))
+external_none each hash said file store c (Ok e) bytes held h k =
+    answered each hash said file store e bytes held
+    (λ expected answers. k h.container expected (at_found hash said file store (opened.NoStore c) expected h answers))
 external_none each hash said file store c (Err e) bytes held h k = tt
 
 -- a file that is refused has that answer
-pub external_refused : EachExternal → (hash : Alg → List ℕ → List ℕ) (said : Question → Verdict) (file store : List ℕ) (reason : Reason) (number : ℕ) → All (λ b. b < 2 ^ 8) file → All (λ b. b < 2 ^ 8) store → IsFound file (opened.Refused reason number)
+pub external_refused : EachExternal
+    → (hash : Alg → List ℕ → List ℕ) (said : Question → Verdict) (file store : List ℕ) (reason : Reason) (number : ℕ)
+    → All (λ b. b < 2 ^ 8) file → All (λ b. b < 2 ^ 8) store → IsFound file (opened.Refused reason number)
     → IsAnsweredExternal hash said file store (Of (answer.Refused reason number))
 external_refused each hash said file store reason number bytes held h =
-    answered each hash said file store (Of (answer.Refused reason number)) bytes held (λ expected answers. at_found hash said file store (opened.Refused reason number) expected h answers)
+    answered each hash said file store (Of (answer.Refused reason number)) bytes held
+    (λ expected answers. at_found hash said file store (opened.Refused reason number) expected h answers)

@@ -1,7 +1,9 @@
 -- The answer of a file, by what it is opened as, and by the store that was opened from it.
+use Rattle.c2_opening.proofs.TheLaws.{one_media_read, one_opening_file}
+use Rattle.c2_read_manifests.proofs.TheLaws.{one_reading_manifests}
 use Rattle.std.proofs.Common.{◌≡◌, ℕ, ◌<◌, ◌^◌, List, [], All, length, Option, Some, refl, sym, ap, ◌∙◌, subst}
 use Rattle.c2_base.specs.declared.values.Question.{Question}
-use Rattle.c2_spec.specs.C2pa.Manifest.{Manifest, manifests_of}
+use Rattle.c2_spec.specs.C2pa.Manifest.{manifests_of}
 use Rattle.c2_spec.specs.Jumbf.Tree.{Tree}
 use Rattle.c2_spec.specs.Located.{Opening, absent, here, refused}
 use Rattle.c2_spec.specs.declared.digest.Alg.{Alg}
@@ -9,7 +11,7 @@ use Rattle.c2_spec.specs.declared.panel.Verdict.{Verdict}
 use Rattle.c2_spec.specs.declared.reason.Reason.{Reason}
 use Rattle.std.specs.declared.result.Result.{Result}
 use Rattle.c2_spec.specs.declared.assertion.FieldError.{FieldError}
-use Rattle.c2_rules.specs.Binding.{Binding, IsMedia, Media}
+use Rattle.c2_rules.specs.Binding.{Binding, Media}
 use Rattle.c2_rules.specs.CheckList.{HasBindingOf, StoreReading, active_in, check_asks, store_answer}
 use Rattle.c2_rules.specs.Opened.{IsOpened}
 use Rattle.c2_rules.specs.Readings.{AreReadings, Reading}
@@ -19,7 +21,7 @@ use Rattle.c2_calls_spec.specs.Asks.{AsksKnown}
 use Rattle.c2_container.specs.Contained.{IsContainerOf}
 use Rattle.c2_container.specs.declared.types.Container.{Container}
 use Rattle.c2_opening.specs.Media.{IsMediaOf}
-use Rattle.c2_opening.specs.Opened.{IsFound, IsRead, tree_of}
+use Rattle.c2_opening.specs.Opened.{IsFound, IsStoreRead, tree_of}
 use Rattle.c2_opening.specs.declared.types.Media.{Media as MediaFile}
 use Rattle.c2_opening.specs.declared.types.Opened.TheVariants as opened
 use Rattle.c2_opening.specs.declared.types.StoreRead.{StoreRead}
@@ -30,88 +32,110 @@ use Rattle.c2_validate.specs.Validation.{FileAsks, IsAnswered}
 use Rattle.c2_validate.specs.declared.checking.Checked.{Checked}
 use Rattle.c2_validate.specs.declared.checking.OpenedStore.{OpenedStore}
 
--- a file is opened as one thing
-abbrev pub OneOpening : Type 0
-OneOpening = (file : List ℕ) (a b : Opening Tree) → IsOpened file a → IsOpened file b → a ≡ b
-
--- manifests are read as one list
-abbrev pub OneReading : Type 0
-OneReading = (ms : List Manifest) (rs ss : List Reading) → AreReadings ms rs → AreReadings ms ss → rs ≡ ss
-
 -- a file has one answer
 abbrev pub OneAnswer : Type 0
-OneAnswer = (hash : Alg → List ℕ → List ℕ) (said : Question → Verdict) (file : List ℕ) (a b : Answer) → IsAnswer hash said file a → IsAnswer hash said file b → a ≡ b
+OneAnswer =
+    (hash : Alg → List ℕ → List ℕ) (said : Question → Verdict) (file : List ℕ) (a b : Answer) → IsAnswer hash said file
+    a → IsAnswer hash said file b → a ≡ b
 
 -- ---- by what the file is opened as
 
 -- the answer over what a file is opened as is that of the file, and nothing else is
-pub opened_answer : OneAnswer → (hash : Alg → List ℕ → List ℕ) (said : Question → Verdict) (file : List ℕ) (what : Opening Tree) (a : Answer) → IsOpened file what → IsOpenedAnswer hash said file what a → IsAnswered hash said file a
-opened_answer one hash said file what a is over = record { is = (what, is, over); only = λ expected answers. one hash said file expected a answers (what, is, over) }
+pub opened_answer : OneAnswer
+    → (hash : Alg → List ℕ → List ℕ) (said : Question → Verdict) (file : List ℕ) (what : Opening Tree) (a : Answer)
+    → IsOpened file what → IsOpenedAnswer hash said file what a → IsAnswered hash said file a
+opened_answer one hash said file what a is over =
+    record { is = (what, is, over); only = λ expected answers. one hash said file expected a answers (what, is, over) }
 
 -- what is asked of a file is asked over what it is opened as
-pub opened_asks : OneOpening → (hash : Alg → List ℕ → List ℕ) (said : Question → Verdict) (file : List ℕ) (what : Opening Tree) (qs : List Question) → IsOpened file what → CheckAsks hash said file qs → OpenedAsks (check_asks hash said) what qs
-opened_asks one hash said file what qs is asks = subst (λ (w : Opening Tree). OpenedAsks (check_asks hash said) w qs) (one file asks.0 what asks.1 is) asks.2
+pub opened_asks :
+    (hash : Alg → List ℕ → List ℕ) (said : Question → Verdict) (file : List ℕ) (what : Opening Tree)
+    (qs : List Question)
+    → IsOpened file what → CheckAsks hash said file qs → OpenedAsks (check_asks hash said) what qs
+opened_asks hash said file what qs is asks =
+    subst (λ (w : Opening Tree). OpenedAsks (check_asks hash said) w qs) (one_opening_file file asks.0 what asks.1 is)
+    asks.2
 
 -- ---- by the store that was opened
 
--- what a container that was read says of media
-abbrev pub ContainsMedia : Type 0
-ContainsMedia = (file : List ℕ) (c : Container) (m : Media) → IsContainerOf file c → IsMedia file m → IsMediaOf file c m
-
 -- what is answered over manifests that were read, in a file of this container and this embedded range
-abbrev pub AnswersOver : (Alg → List ℕ → List ℕ) → (Question → Verdict) → List ℕ → Container → ℕ → ℕ → List Reading → Answer → Type 0
+abbrev pub AnswersOver : (Alg → List ℕ → List ℕ) → (Question → Verdict) → List ℕ → Container → ℕ → ℕ → List Reading
+    → Answer → Type 0
 AnswersOver hash said file c start len rs a =
-    (m : Media) → IsMediaOf file c m → (b : Option (Result Binding FieldError)) → HasBindingOf m (active_in rs) b → a ≡ store_answer hash said (length file) start len (record { readings = rs; binding = b })
+    (m : Media) → IsMediaOf file c m → (b : Option (Result Binding FieldError)) → HasBindingOf m (active_in rs) b → a
+    ≡ store_answer hash said (length file) start len (record { readings = rs; binding = b })
 
--- it is what is answered over the tree that they were read of
-pub tree_answered : ContainsMedia → OneReading → (hash : Alg → List ℕ → List ℕ) (said : Question → Verdict)
+-- what is answered over manifests that were read is what is answered over the tree that they were read of
+pub tree_answered : (hash : Alg → List ℕ → List ℕ) (said : Question → Verdict)
     (file : List ℕ) (c : Container) (start len : ℕ) (t : Tree) (rs : List Reading) (a expected : Answer)
     → IsContainerOf file c → AreReadings (manifests_of t) rs → AnswersOver hash said file c start len rs a
     → IsTreeAnswer hash said file start len t expected → a ≡ expected
-tree_answered media one hash said file c start len t rs a expected contained reads h k =
+tree_answered hash said file c start len t rs a expected contained reads h k =
     let s : StoreReading = k.0 in
-    let same : rs ≡ s.readings = one (manifests_of t) rs s.readings reads k.1.reads.each in
-    let there : HasBindingOf k.1.media (active_in rs) s.binding = subst (λ (x : List Reading). HasBindingOf k.1.media (active_in x) s.binding) (sym same) k.1.reads.binding in
-    h k.1.media (media file c k.1.media contained k.1.is_media) s.binding there ∙ ap (λ (x : List Reading). store_answer hash said (length file) start len (record { readings = x; binding = s.binding })) same ∙ sym k.2
+    let same : rs ≡ s.readings = one_reading_manifests (manifests_of t) rs s.readings reads k.1.reads.each in
+    let there : HasBindingOf k.1.media (active_in rs) s.binding =
+    subst (λ (x : List Reading). HasBindingOf k.1.media (active_in x) s.binding) (sym same) k.1.reads.binding in
+    h k.1.media (one_media_read file c k.1.media contained k.1.is_media) s.binding there
+    ∙ ap
+    (λ (x : List Reading). store_answer hash said (length file) start len (record { readings = x; binding = s.binding }))
+    same
+    ∙ sym k.2
 
 -- what is asked over a tree is asked over what was read of it
-pub tree_asks : OneReading → (hash : Alg → List ℕ → List ℕ) (said : Question → Verdict) (t : Tree) (rs ss : List Reading) (qs : List Question) → AreReadings (manifests_of t) rs → AreReadings (manifests_of t) ss → qs ≡ check_asks hash said ss → qs ≡ check_asks hash said rs
-tree_asks one hash said t rs ss qs reads others is = is ∙ ap (check_asks hash said) (one (manifests_of t) ss rs others reads)
+pub tree_asks :
+    (hash : Alg → List ℕ → List ℕ) (said : Question → Verdict) (t : Tree) (rs ss : List Reading) (qs : List Question)
+    → AreReadings (manifests_of t) rs → AreReadings (manifests_of t) ss → qs ≡ check_asks hash said ss
+    → qs ≡ check_asks hash said rs
+tree_asks hash said t rs ss qs reads others is =
+    is ∙ ap (check_asks hash said) (one_reading_manifests (manifests_of t) ss rs others reads)
 
--- so it is the answer of the file that is opened as that tree
-answer_by : ContainsMedia → OneReading → OneOpening → OneAnswer
+-- what is answered over a tree is the answer of the file that is opened as that tree
+answer_by : OneAnswer
     → (hash : Alg → List ℕ → List ℕ) (said : Question → Verdict) (file : List ℕ) (c : Container) (start len : ℕ)
     (t : Tree) (rs : List Reading) (a b : Answer) → IsAnswer hash said file b → IsContainerOf file c
     → IsOpened file (here start len t)
     → AreReadings (manifests_of t) rs → AnswersOver hash said file c start len rs a → IsAnswered hash said file a
-answer_by media one opening answers hash said file c start len t rs a b is contained opened_as reads h =
-    let over = subst (λ (w : Opening Tree). IsOpenedAnswer hash said file w b) (opening file is.0 (here start len t) is.1 opened_as) is.2 in
-    let same : b ≡ a = sym (tree_answered media one hash said file c start len t rs a b contained reads h over) in
-    record { is = subst (IsAnswer hash said file) same is; only = λ expected k. answers hash said file expected b k is ∙ same }
+answer_by answers hash said file c start len t rs a b is contained opened_as reads h =
+    let over =
+    subst (λ (w : Opening Tree). IsOpenedAnswer hash said file w b)
+    (one_opening_file file is.0 (here start len t) is.1 opened_as) is.2 in
+    let same : b ≡ a = sym (tree_answered hash said file c start len t rs a b contained reads h over) in
+    record
+    { is = subst (IsAnswer hash said file) same is; only = λ expected k. answers hash said file expected b k is ∙ same }
 
 -- each file has an answer
 abbrev pub EachAnswer : Type 0
-EachAnswer = (hash : Alg → List ℕ → List ℕ) (said : Question → Verdict) (file : List ℕ) → All (λ b. b < 2 ^ 8) file → (a : Answer) × IsAnswer hash said file a
+EachAnswer =
+    (hash : Alg → List ℕ → List ℕ) (said : Question → Verdict) (file : List ℕ) → All (λ b. b < 2 ^ 8) file
+    → (a : Answer) × IsAnswer hash said file a
 
--- so what is answered over the manifests of a file's store is its answer
-pub read_answers : ContainsMedia → OneReading → OneOpening → OneAnswer → EachAnswer → (hash : Alg → List ℕ → List ℕ) (said : Question → Verdict) (file : List ℕ) (c : Container) (start len : ℕ) (t : Tree) (rs : List Reading) (a : Answer) → All (λ b. b < 2 ^ 8) file → IsContainerOf file c
-    → IsOpened file (here start len t) → AreReadings (manifests_of t) rs → AnswersOver hash said file c start len rs a → IsAnswered hash said file a
-read_answers media one opening answers each hash said file c start len t rs a bytes contained opened_as reads h =
-    let e = each hash said file bytes in answer_by media one opening answers hash said file c start len t rs a e.0 e.1 contained opened_as reads h
+-- what is answered over the manifests of a file's store is its answer
+pub read_answers : OneAnswer → EachAnswer
+    → (hash : Alg → List ℕ → List ℕ) (said : Question → Verdict) (file : List ℕ) (c : Container) (start len : ℕ) (t : Tree) (rs : List Reading) (a : Answer)
+    → All (λ b. b < 2 ^ 8) file → IsContainerOf file c
+    → IsOpened file (here start len t) → AreReadings (manifests_of t) rs → AnswersOver hash said file c start len rs a
+    → IsAnswered hash said file a
+read_answers answers each hash said file c start len t rs a bytes contained opened_as reads h =
+    let e =
+    each hash said file bytes in answer_by answers hash said file c start len t rs a e.0 e.1 contained opened_as
+    reads h
 
--- and what is asked of the file is asked over them
-pub read_asks : OneReading → OneOpening → (hash : Alg → List ℕ → List ℕ) (said : Question → Verdict) (file : List ℕ)
+-- what is asked of a file is asked over the manifests of its store
+pub read_asks : (hash : Alg → List ℕ → List ℕ) (said : Question → Verdict) (file : List ℕ)
     (start len : ℕ) (t : Tree) (rs : List Reading) (qs : List Question) → IsOpened file (here start len t)
     → AreReadings (manifests_of t) rs → CheckAsks hash said file qs → qs ≡ check_asks hash said rs
-read_asks one opening hash said file start len t rs qs opened_as reads asks =
-    let over = opened_asks opening hash said file (here start len t) qs opened_as asks in
-    tree_asks one hash said t rs over.0 qs reads over.1 over.2
+read_asks hash said file start len t rs qs opened_as reads asks =
+    let over = opened_asks hash said file (here start len t) qs opened_as asks in
+    tree_asks hash said t rs over.0 qs reads over.1 over.2
 
--- the same of an opened store
-pub store_answers : ContainsMedia → OneReading → OneOpening → OneAnswer → EachAnswer → (hash : Alg → List ℕ → List ℕ) (said : Question → Verdict) (file : List ℕ) (o : OpenedStore) (checked : Checked) → All (λ b. b < 2 ^ 8) file → IsOpenedFrom file o → IsCheckedOver hash said o file checked
+-- what is answered over an opened store is the answer of its file
+pub store_answers : OneAnswer → EachAnswer
+    → (hash : Alg → List ℕ → List ℕ) (said : Question → Verdict) (file : List ℕ) (o : OpenedStore) (checked : Checked)
+    → All (λ b. b < 2 ^ 8) file → IsOpenedFrom file o → IsCheckedOver hash said o file checked
     → IsAnswered hash said file (answer_as checked)
-store_answers media one opening answers each hash said file o checked bytes from h =
-    read_answers media one opening answers each hash said file o.container.now o.range.start o.range.length from.tree (readings_of o) (answer_as checked) bytes from.container from.opened from.reads (λ m i b has. (h m i b has).answer)
+store_answers answers each hash said file o checked bytes from h =
+    read_answers answers each hash said file o.container.now o.range.start o.range.length from.tree (readings_of o)
+    (answer_as checked) bytes from.container from.opened from.reads (λ m i b has. (h m i b has).answer)
 
 -- an opened store with this container, this range and these manifests is checked over them
 pub over_opened : (hash : Alg → List ℕ → List ℕ) (said : Question → Verdict) (file : List ℕ) (o : OpenedStore)
@@ -124,14 +148,18 @@ over_opened hash said file o c start len rs checked contained starts long reads 
     (subst (λ (n : ℕ). AnswersOver hash said file o.container.now o.range.start n rs (answer_as checked)) long
     (subst (λ (xs : List Reading). AnswersOver hash said file o.container.now o.range.start o.range.length xs (answer_as checked)) reads (λ m i b has. (h m i b has).answer))))
 
--- and of its questions
-pub store_asks : OneReading → OneOpening → (hash : Alg → List ℕ → List ℕ) (said : Question → Verdict) (file : List ℕ) (o : OpenedStore) (qs : List Question) → IsOpenedFrom file o → CheckAsks hash said file qs → StoreAsks hash o said qs
-store_asks one opening hash said file o qs from asks = read_asks one opening hash said file o.range.start o.range.length from.tree (readings_of o) qs from.opened from.reads asks
+-- what is asked of a file is asked of its opened store
+pub store_asks :
+    (hash : Alg → List ℕ → List ℕ) (said : Question → Verdict) (file : List ℕ) (o : OpenedStore) (qs : List Question)
+    → IsOpenedFrom file o → CheckAsks hash said file qs → StoreAsks hash o said qs
+store_asks hash said file o qs from asks =
+    read_asks hash said file o.range.start o.range.length from.tree (readings_of o) qs from.opened from.reads asks
 
 -- ---- what a file is opened as
 
 -- a file whose container is refused
-pub opened_refused : (file : List ℕ) (reason : Reason) (number : ℕ) → IsFound file (opened.Refused reason number) → IsOpened file (refused reason number)
+pub opened_refused : (file : List ℕ) (reason : Reason) (number : ℕ) → IsFound file (opened.Refused reason number)
+    → IsOpened file (refused reason number)
 opened_refused file reason number h = (refused reason number, h.located, refl)
 
 -- a file without a store
@@ -139,24 +167,33 @@ pub opened_absent : (file : List ℕ) (c : Container) → IsFound file (opened.N
 opened_absent file c h = (absent, h.located, refl)
 
 -- a file with a store, by what that was read as
-pub opened_read : (file : List ℕ) (m : MediaFile) (r : StoreRead) → IsFound file (opened.Here m) → IsRead m.found r → IsOpened file (tree_of m.found r)
+pub opened_read : (file : List ℕ) (m : MediaFile) (r : StoreRead) → IsFound file (opened.Here m) → IsStoreRead m.found r
+    → IsOpened file (tree_of m.found r)
 opened_read file m r h k = (here m.found.start m.found.length m.found.store, h.located, k.store)
 
 -- ---- what is asked of a file whose bytes may be known
 
 -- nothing, where it has no store
-pub known_absent : OneOpening → (known : Option (List ℕ)) (hash : Alg → List ℕ → List ℕ) (said : Question → Verdict) (qs : List Question) → ((file : List ℕ) → known ≡ Some file → IsOpened file absent) → AsksKnown known (FileAsks hash) said qs → qs ≡ []
-known_absent opening known hash said qs is asks = opened_asks opening hash said asks.0 absent qs (is asks.0 asks.1) asks.2
+pub known_absent :
+    (known : Option (List ℕ)) (hash : Alg → List ℕ → List ℕ) (said : Question → Verdict) (qs : List Question)
+    → ((file : List ℕ) → known ≡ Some file → IsOpened file absent) → AsksKnown known (FileAsks hash) said qs → qs ≡ []
+known_absent known hash said qs is asks = opened_asks hash said asks.0 absent qs (is asks.0 asks.1) asks.2
 
 -- nothing, where it is refused
-pub known_refused : OneOpening → (known : Option (List ℕ)) (hash : Alg → List ℕ → List ℕ) (said : Question → Verdict)
+pub known_refused : (known : Option (List ℕ)) (hash : Alg → List ℕ → List ℕ) (said : Question → Verdict)
     (reason : Reason) (number : ℕ) (qs : List Question)
     → ((file : List ℕ) → known ≡ Some file → IsOpened file (refused reason number))
     → AsksKnown known (FileAsks hash) said qs → qs ≡ []
-known_refused opening known hash said reason number qs is asks = opened_asks opening hash said asks.0 (refused reason number) qs (is asks.0 asks.1) asks.2
+known_refused known hash said reason number qs is asks =
+    opened_asks hash said asks.0 (refused reason number) qs (is asks.0 asks.1) asks.2
 
 -- what is asked over the manifests that were read of its store
-pub known_asks : OneReading → OneOpening → (known : Option (List ℕ)) (hash : Alg → List ℕ → List ℕ) (said : Question → Verdict) (m : MediaFile) (t : Tree) (store : List ManifestBoxes) (rs : List Reading) (qs : List Question) → ((file : List ℕ) → known ≡ Some file → IsFound file (opened.Here m))
-    → IsRead m.found (read.Here t store) → AreReadings (manifests_of t) rs → AsksKnown known (FileAsks hash) said qs → qs ≡ check_asks hash said rs
-known_asks one opening known hash said m t store rs qs found is reads asks =
-    read_asks one opening hash said asks.0 m.found.start m.found.length t rs qs (opened_read asks.0 m (read.Here t store) (found asks.0 asks.1) is) reads asks.2
+pub known_asks :
+    (known : Option (List ℕ)) (hash : Alg → List ℕ → List ℕ) (said : Question → Verdict) (m : MediaFile) (t : Tree)
+    (store : List ManifestBoxes) (rs : List Reading) (qs : List Question)
+    → ((file : List ℕ) → known ≡ Some file → IsFound file (opened.Here m))
+    → IsStoreRead m.found (read.Here t store) → AreReadings (manifests_of t) rs
+    → AsksKnown known (FileAsks hash) said qs → qs ≡ check_asks hash said rs
+known_asks known hash said m t store rs qs found is reads asks =
+    read_asks hash said asks.0 m.found.start m.found.length t rs qs
+    (opened_read asks.0 m (read.Here t store) (found asks.0 asks.1) is) reads asks.2

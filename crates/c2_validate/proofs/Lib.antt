@@ -4,5 +4,6 @@ mod CountLemmas
 mod EachCheck
 mod ExternalLemmas
 mod FileLemmas
-mod OneExternal
 mod OneCheck
+mod OneExternal
+pub mod TheLaws

@@ -91,7 +91,7 @@ validate_heard NoMemory = part
 -- ---- what an error comes from
 
 -- the cause of an error of a call that reads a source and may ask judges, by the source's count of faults before and after
-abbrev pub IsReadCause : ℕ → ℕ → ValidateError → Type 0
-IsReadCause before now ReadFault = Rose before now
-IsReadCause before now JudgeFault = ⊤
-IsReadCause before now NoMemory = ⊤
+abbrev pub IsCheckReadCause : ℕ → ℕ → ValidateError → Type 0
+IsCheckReadCause before now ReadFault = Rose before now
+IsCheckReadCause before now JudgeFault = ⊤
+IsCheckReadCause before now NoMemory = ⊤

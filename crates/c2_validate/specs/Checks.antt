@@ -20,12 +20,12 @@ abbrev pub fault_of : ChainError → ValidateError
 fault_of chain.JudgeFault = JudgeFault
 fault_of chain.NoMemory = NoMemory
 
--- of each reached manifest its question is asked, the last first, while no rule of a later one fails
+-- the questions that are asked of a chain: that of each reached manifest, the last first, while no rule of a later one fails
 abbrev pub ChainAsks : (Alg → List ℕ → List ℕ) → List Reading → (Question → Verdict) → List Question
     → Type 0
 ChainAsks hash rs said qs = qs ≡ asked_below (judged_tests hash said) rs (length rs)
 
--- Of these questions those before the rest were asked, and no judge failed.
+-- The first of these questions were asked, up to the rest, and no judge failed.
 pub record HasAskedBefore {J : Type 0} (says : J → Question → Verdict) (times faults : J → ℕ)
     (all rest : List Question) (old new : Vec J Global) : Type 0 where
   pub front : List Question

@@ -6,20 +6,20 @@ ghost use Rattle.c2_spec.specs.Judges.Panel.{panel_says};
 ghost use Rattle.c2_rules.specs.Asking.{HearsPanel};
 ghost use Rattle.c2_calls_spec.specs.Asks.{AsksKnown};
 ghost use Rattle.c2_container.specs.Contained.{HasRootsInside};
-ghost use Rattle.c2_validate.specs.Checked.{HasTextSize, IsCheckedOver, IsReadCause, StoreAsks, answer_as, validate_heard};
+ghost use Rattle.c2_validate.specs.Checked.{HasTextSize, IsCheckedOver, IsCheckReadCause, StoreAsks, answer_as, validate_heard};
 ghost use Rattle.c2_validate.specs.Checks.{fault_of};
 ghost use Rattle.c2_validate.specs.Validation.{FileAsks, IsAnswered};
 
 use crate::chain::check_chain;
 use crate::counting::summary;
-use crate::laws::{a_file_answers_by_what_it_is_opened_as, each_file_has_a_check, one_check};
+use crate::laws::each_file_has_a_check;
 use c2_base::{NoMemory, Range, Source};
-use c2_chain::{Chain, ChainError, active_manifest, check_active, of_store, one_reading};
+use c2_chain::{Chain, ChainError, active_manifest, check_active, of_store};
 use c2_hard_binding::{Bound, BoundText, check_binding};
 use c2_hash::Hashing;
 use c2_judge::Judge;
 use c2_opening::types::{Container, Opened, StoreRead};
-use c2_opening::{ValidateError, find_store, one_media, one_opening, read_store};
+use c2_opening::{ValidateError, find_store, read_store};
 use c2_rules::{Answer, Failing, Summary};
 use std::alloc::Global;
 
@@ -86,7 +86,8 @@ pub fn check<S: Source, H: Hashing>(
 
     // These hold of every source.
     ensures size { IfOk result (HasTextSize (S.len source.old)) }
-    ensures reads { ReadsSource S.len S.known S.faults IsReadCause source.old source.new result }
+    ensures reads { ReadsSource S.len S.known S.faults IsCheckReadCause
+        source.old source.new result }
     ensures panel { HearsPanel says asked_times judge_faults validate_heard
         (StoreAsks H.digest_of store.now) judges.old judges.new result }
 {
@@ -131,17 +132,12 @@ pub fn validate<S: Source, H: Hashing>(
     // Where the bytes are known: this is the answer of the check and nothing else is, and just its questions are asked.
     ensures answer { let said = panel_says (map says judges.old.items) in
         ForSome (S.known source.old) (λ file. IfOk result (IsAnswered H.digest_of said file)) }
-    ensures reads { ReadsSource S.len S.known S.faults IsReadCause source.old source.new result }
+    ensures reads { ReadsSource S.len S.known S.faults IsCheckReadCause
+        source.old source.new result }
     ensures panel { HearsPanel says asked_times judge_faults validate_heard
         (AsksKnown (S.known source.old) (FileAsks H.digest_of)) judges.old judges.new result }
 {
-    // Only the prover needs these laws.
-    a_file_answers_by_what_it_is_opened_as();
-    one_check();
     each_file_has_a_check();
-    one_media();
-    one_opening();
-    one_reading();
     let media = match find_store(alloc, source) {
         Ok(Opened::Here(media)) => media,
         Ok(Opened::NoStore(_)) => return Ok(Answer::NoStore),

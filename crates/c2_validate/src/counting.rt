@@ -8,7 +8,7 @@ use c2_base::{NoMemory, Range};
 use c2_chain::{Chain, manifest_count, reached, readings, redacted};
 use c2_cover::{Cover, covered_count, outside_count};
 use c2_hard_binding::{claim_read, created, gathered};
-use c2_read_manifests::{Kept, entry_label, manifests};
+use c2_read_manifests::{ReadManifest, entry_label, manifests};
 use c2_rules::{Parsed, Summary};
 use c2_spec::Ref;
 use std::alloc::Global;
@@ -33,7 +33,7 @@ fn reached_count(chain: &Chain<'_>) -> u64
 }
 
 /// Whether an entry of manifest `i` lists a label that isn't redacted.
-fn is_kept(chain: &Chain<'_>, i: usize, own: &Kept<'_>, entry: &Ref) -> bool
+fn is_kept(chain: &Chain<'_>, i: usize, own: &ReadManifest<'_>, entry: &Ref) -> bool
     requires { i < length chain.now.readings }
     ensures { result ≡ keeps (is_redacted chain.now.readings i) own.now.manifest entry.now }
 {
@@ -59,7 +59,7 @@ fn push_kept<'c>(
     found: &mut Vec<&'c Ref>,
     chain: &Chain<'_>,
     i: usize,
-    own: &Kept<'_>,
+    own: &ReadManifest<'_>,
     entries: &'c [Ref],
 ) -> Result<(), NoMemory>
     requires { i < length chain.now.readings }
@@ -78,7 +78,7 @@ fn push_unredacted<'c>(
     found: &mut Vec<&'c Ref>,
     chain: &Chain<'_>,
     i: usize,
-    own: &'c Kept<'_>,
+    own: &'c ReadManifest<'_>,
 ) -> Result<(), NoMemory>
     requires { i < length chain.now.readings }
     ensures { OnOk result (length found.new.items ≡ length found.old.items

@@ -7,18 +7,18 @@ ghost use Rattle.c2_rules.specs.Asking.{HearsPanel};
 ghost use Rattle.c2_calls_spec.specs.Asks.{AsksKnown};
 ghost use Rattle.c2_container.specs.Contained.{HasRootsInside};
 ghost use Rattle.c2_validate.specs.External.{ExternalAsks, IsAnsweredExternal, IsListAnswered, ListAsks};
-ghost use Rattle.c2_validate.specs.Checked.{IsReadCause, validate_heard};
+ghost use Rattle.c2_validate.specs.Checked.{IsCheckReadCause, validate_heard};
 
 use crate::checking::{OpenedStore, answer, check};
 use crate::laws::{each_file_has_an_external_check, one_external_check};
 use c2_base::limits::MAX_STORE_LEN;
 use c2_base::{NoMemory, Range, Source};
-use c2_chain::{Chain, of_store, one_reading};
+use c2_chain::{Chain, of_store};
 use c2_container::Container;
 use c2_hash::Hashing;
 use c2_judge::Judge;
 use c2_opening::types::{Opened, StoreRead};
-use c2_opening::{ValidateError, find_store, one_media, one_opening, read_tree};
+use c2_opening::{ValidateError, find_store, read_tree};
 use c2_rules::Answer;
 use c2_spec::Reason;
 use std::alloc::Global;
@@ -70,14 +70,11 @@ pub fn check_external<S: Source, H: Hashing>(
     ensures answer { let said = panel_says (map says judges.old.items) in
         ForSome (S.known source.old)
         (λ file. IfOk result (IsListAnswered H.digest_of said container.now store.now file)) }
-    ensures reads { ReadsSource S.len S.known S.faults IsReadCause source.old source.new result }
+    ensures reads { ReadsSource S.len S.known S.faults IsCheckReadCause
+        source.old source.new result }
     ensures panel { HearsPanel says asked_times judge_faults validate_heard
         (ListAsks H.digest_of store.now) judges.old judges.new result }
 {
-    // Only the prover needs these laws.
-    one_media();
-    one_opening();
-    one_reading();
     if store.len() > MAX_STORE_LEN as usize {
         return Ok(External::StoreRefused(Reason::StoreTooLarge, store.len() as u64));
     }
@@ -119,12 +116,12 @@ pub fn check_with<S: Source, H: Hashing>(
     ensures answer { let said = panel_says (map says judges.old.items) in
         ForSome (S.known source.old)
         (λ file. IfOk result (IsAnsweredExternal H.digest_of said file store.now)) }
-    ensures reads { ReadsSource S.len S.known S.faults IsReadCause source.old source.new result }
+    ensures reads { ReadsSource S.len S.known S.faults IsCheckReadCause
+        source.old source.new result }
     ensures panel { HearsPanel says asked_times judge_faults validate_heard
         (AsksKnown (S.known source.old) (ExternalAsks H.digest_of store.now))
         judges.old judges.new result }
 {
-    // Only the prover needs these laws.
     one_external_check();
     each_file_has_an_external_check();
     let opened = match find_store(alloc, source) {

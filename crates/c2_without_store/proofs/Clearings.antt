@@ -4,9 +4,8 @@ use Rattle.std.specs.List.{flat_map, AllByRecursion}
 use Rattle.std.proofs.lemmas.Bool.{eq-eqb}
 use Rattle.std.proofs.lemmas.Grind.{flat_map-append}
 use Rattle.std.proofs.lemmas.List.{take_at, drop_at}
-use borrow.Author.Tests.{eqb-true}
 use Rattle.c2_base.specs.declared.values.Range.{Range}
-use Rattle.c2_spec.specs.Bmff.Boxes.{SizeForm, short, long, to_end, Box, IsBox, box_bytes, box_len, boxes_len, header_len}
+use Rattle.c2_spec.specs.Bmff.Boxes.{Box, IsBox, box_bytes, box_len, boxes_len, header_len}
 use Rattle.c2_spec.specs.Bmff.Paths.{placed_from}
 use Rattle.c2_spec.specs.Bmff.Store.{HasBmffStore}
 use Rattle.c2_spec.specs.Bmff.Writing.{IsBmffBase, base_roots, freed, is_file_end, without}
@@ -21,36 +20,12 @@ use Rattle.c2_without_store.specs.Clears.{ClearsTo, cleared, clearing_in, ends_f
 use Rattle.c2_without_store.specs.declared.clearing.Clearing.{Clearing}
 use Rattle.c2_without_store.specs.declared.clearing.Clearing.TheVariants.{Cut, Freed}
 use Rattle.c2_without_store.proofs.FreedBoxes.{freed_file}
+use Rattle.c2_lemmas.proofs.Each.{each_back, each_front}
+use Rattle.c2_lemmas.proofs.Numbers.{not_equal}
+use Rattle.c2_spec.proofs.BmffShared.{boxes_length_more, parts_are}
+use Rattle.c2_spec.proofs.Openings.{some_header}
 
 -- ---- lists
-
--- what holds of two lists together holds of the first
-pub all_front : {A : Type 0} (P : A → Type 0) (xs ys : List A) → AllByRecursion P (xs ++ ys) → AllByRecursion P xs
-all_front P [] ys h = tt
-all_front P (x ∷ xs) ys h = (h.0, all_front P xs ys h.1)
-
--- and of the second
-pub all_back : {A : Type 0} (P : A → Type 0) (xs ys : List A) → AllByRecursion P (xs ++ ys) → AllByRecursion P ys
-all_back P [] ys h = h
-all_back P (x ∷ xs) ys h = all_back P xs ys h.1
-
--- the bytes of boxes with one more before them
-pub len_more : (b : Box) (bs : List Box) → IsBox b → boxes_len (b ∷ bs) ≡ box_len b + boxes_len bs
-len_more b bs h = length-append (box_bytes b) (flat_map box_bytes bs) ∙ ap (λ n. n + boxes_len bs) (bytes_size b h)
-
--- a number that isn't another
-pub not_equal : (n m : ℕ) → (n ≡ m → ⊥) → (n == m) ≡ false
-not_equal n m h = go (n == m) refl
-  where
-    go : (t : Bool) → (n == m) ≡ t → (n == m) ≡ false
-    go true e = absurd (h (eqb-true n m e))
-    go false e = e
-
--- a header has eight bytes at least
-pub some_header : (f : SizeForm) → 8 ≤ header_len f
-some_header short = omega arith
-some_header long = omega arith
-some_header to_end = omega arith
 
 -- ---- the row that is cleared
 
@@ -61,15 +36,18 @@ ends_is p (b ∷ []) = refl
 ends_is p (b ∷ c ∷ cs) = refl
 
 -- how a box among others is cleared away, by the rows
-clearing_at : (p : ℕ) (before : List Box) (b : Box) (after : List Box) (start : ℕ) → AllByRecursion IsBox before → start ≡ p + boxes_len before
+clearing_at : (p : ℕ) (before : List Box) (b : Box) (after : List Box) (start : ℕ) → AllByRecursion IsBox before
+    → start ≡ p + boxes_len before
     → clearing_in start (map row_of (placed_from p (before ++ b ∷ after))) ≡ cond (is_file_end after) (Cut (row_range (row_of (record { at = start; box = b })))) (Freed (row_of (record { at = start; box = b })))
 clearing_at p [] b after start h e =
     let here : p ≡ start = omega (arith, e) in
     ap (λ (t : Bool). cond t (cond (ends_file (map row_of (placed_from (p + box_len b) after))) (Cut (row_range (row_of (record { at = p; box = b })))) (Freed (row_of (record { at = p; box = b }))))
     (clearing_in start (map row_of (placed_from (p + box_len b) after)))) (eq-eqb p start here)
-    ∙ ap₂ (λ (t : Bool) (n : ℕ). cond t (Cut (row_range (row_of (record { at = n; box = b })))) (Freed (row_of (record { at = n; box = b })))) (ends_is (p + box_len b) after) here
+    ∙ ap₂
+    (λ (t : Bool) (n : ℕ). cond t (Cut (row_range (row_of (record { at = n; box = b })))) (Freed (row_of (record { at = n; box = b }))))
+    (ends_is (p + box_len b) after) here
 clearing_at p (c ∷ cs) b after start h e =
-    let more : boxes_len (c ∷ cs) ≡ box_len c + boxes_len cs = len_more c cs h.0 in
+    let more : boxes_len (c ∷ cs) ≡ box_len c + boxes_len cs = boxes_length_more c cs h.0 in
     let header : 8 ≤ header_len c.form = some_header c.form in
     let other : (p == start) ≡ false = not_equal p start (λ same. omega (arith, same, e, more, header)) in
     ap (λ (t : Bool). cond t (cond (ends_file (map row_of (placed_from (p + box_len c) (cs ++ b ∷ after)))) (Cut (row_range (row_of (record { at = p; box = c })))) (Freed (row_of (record { at = p; box = c }))))
@@ -78,18 +56,16 @@ clearing_at p (c ∷ cs) b after start h e =
 
 -- ---- what is left
 
--- the bytes of boxes around one
-around : (before : List Box) (b : Box) (after : List Box) → flat_map box_bytes (before ++ b ∷ after) ≡ flat_map box_bytes before ++ (box_bytes b ++ flat_map box_bytes after)
-around before b after = flat_map-append box_bytes before (b ∷ after)
-
 -- a box is cut out of others
-cut_left : (before : List Box) (b : Box) (after : List Box) (range : Range) → IsBox b → range.start ≡ boxes_len before → range.length ≡ box_len b
+cut_left : (before : List Box) (b : Box) (after : List Box) (range : Range) → IsBox b → range.start ≡ boxes_len before
+    → range.length ≡ box_len b
     → taken_out range.start range.length (flat_map box_bytes (before ++ b ∷ after)) ≡ flat_map box_bytes (before ++ after)
 cut_left before b after range is from for =
     let front : List ℕ = flat_map box_bytes before in
     let back : List ℕ = flat_map box_bytes after in
-    let place : length (front ++ box_bytes b) ≡ range.start + range.length = omega (arith, length-append front (box_bytes b), bytes_size b is, from, for) in
-    ap (λ (xs : List ℕ). taken_out range.start range.length xs) (around before b after)
+    let place : length (front ++ box_bytes b) ≡ range.start + range.length =
+    omega (arith, length-append front (box_bytes b), bytes_size b is, from, for) in
+    ap (λ (xs : List ℕ). taken_out range.start range.length xs) (parts_are before b after)
     ∙ ap₂ (λ (xs ys : List ℕ). xs ++ ys) (take_at front (box_bytes b ++ back) range.start (sym from))
     (ap (drop (range.start + range.length)) (sym (append_assoc front (box_bytes b) back)) ∙ drop_at (front ++ box_bytes b) back (range.start + range.length) place)
     ∙ sym (flat_map-append box_bytes before after)
@@ -98,16 +74,19 @@ cut_left before b after range is from for =
 freed_left : (before : List Box) (b : Box) (after : List Box) (at : ℕ) → IsBox b → at ≡ boxes_len before
     → cleared (Freed (row_of (record { at = at; box = b }))) (flat_map box_bytes (before ++ b ∷ after)) ≡ flat_map box_bytes (before ++ freed b ∷ after)
 freed_left before b after at is from =
-    ap (cleared (Freed (row_of (record { at = at; box = b })))) (around before b after)
-    ∙ freed_file (flat_map box_bytes before) b (flat_map box_bytes after) (row_of (record { at = at; box = b })) is from refl refl
-    ∙ sym (around before (freed b) after)
+    ap (cleared (Freed (row_of (record { at = at; box = b })))) (parts_are before b after)
+    ∙ freed_file (flat_map box_bytes before) b (flat_map box_bytes after) (row_of (record { at = at; box = b })) is from
+    refl refl
+    ∙ sym (parts_are before (freed b) after)
 
--- either way the boxes of the base are left
-left_is : (before : List Box) (b : Box) (after : List Box) (range : Range) → IsBox b → range.start ≡ boxes_len before → range.length ≡ box_len b
+-- the boxes of the base are left, whether the range is cut out or the box is freed
+left_is : (before : List Box) (b : Box) (after : List Box) (range : Range) → IsBox b → range.start ≡ boxes_len before
+    → range.length ≡ box_len b
     → cleared (cond (is_file_end after) (Cut range) (Freed (row_of (record { at = range.start; box = b })))) (flat_map box_bytes (before ++ b ∷ after)) ≡ flat_map box_bytes (base_roots before b after)
 left_is before b after range is from for = go (is_file_end after)
   where
-    go : (t : Bool) → cleared (cond t (Cut range) (Freed (row_of (record { at = range.start; box = b })))) (flat_map box_bytes (before ++ b ∷ after)) ≡ flat_map box_bytes (cond t (before ++ after) (before ++ freed b ∷ after))
+    go : (t : Bool)
+        → cleared (cond t (Cut range) (Freed (row_of (record { at = range.start; box = b })))) (flat_map box_bytes (before ++ b ∷ after)) ≡ flat_map box_bytes (cond t (before ++ after) (before ++ freed b ∷ after))
     go true = cut_left before b after range is from for
     go false = freed_left before b after range.start is from
 
@@ -122,36 +101,44 @@ pub record FoundAmong (rows : List RootBox) (start len : ℕ) (before : List Box
   pub for : len ≡ box_len holder
 
 -- so it is with each store that is found
-pub found_among : (file : List ℕ) (rows : List RootBox) (start len : ℕ) (store : List ℕ) → AreRootsOf file rows → (h : HasBmffStore file start len store) → FoundAmong rows start len h.holds.before h.holds.holder h.holds.after
+pub found_among : (file : List ℕ) (rows : List RootBox) (start len : ℕ) (store : List ℕ) → AreRootsOf file rows
+    → (h : HasBmffStore file start len store) → FoundAmong rows start len h.holds.before h.holds.holder h.holds.after
 found_among file rows start len store r h =
     let s = h.holds in
     let once : r.boxes ≡ h.roots = roots_once file r.boxes h.roots r.has_roots h.has_roots in
-    let all : AllByRecursion IsBox (s.before ++ s.holder ∷ s.after) = subst (AllByRecursion IsBox) s.split (form_boxes h.roots h.has_roots.forms) in
+    let all : AllByRecursion IsBox (s.before ++ s.holder ∷ s.after) =
+    subst (AllByRecursion IsBox) s.split (form_boxes h.roots h.has_roots.forms) in
     record {
       all = all;
-      is = (all_back IsBox s.before (s.holder ∷ s.after) all).0;
+      is = (each_back IsBox s.before (s.holder ∷ s.after) all).0;
       split = r.are ∙ ap rows_of (once ∙ s.split);
       from = s.from;
       for = s.for;
     }
 
 -- a file with a store is cleared to its base
-pub store_base : (file : List ℕ) (rows : List RootBox) (start len : ℕ) (store : List ℕ) → AreRootsOf file rows → (h : HasBmffStore file start len store)
+pub store_base : (file : List ℕ) (rows : List RootBox) (start len : ℕ) (store : List ℕ) → AreRootsOf file rows
+    → (h : HasBmffStore file start len store)
     → IsBmffBase file (cleared (clearing_in start rows) file) (base_roots h.holds.before h.holds.holder h.holds.after)
 store_base file rows start len store r h =
     let s = h.holds in
     let f = found_among file rows start len store r h in
     let row : RootBox = row_of (record { at = start; box = s.holder }) in
     let how : clearing_in start rows ≡ cond (is_file_end s.after) (Cut (row_range row)) (Freed row) =
-    ap (clearing_in start) f.split ∙ clearing_at 0 s.before s.holder s.after start (all_front IsBox s.before (s.holder ∷ s.after) f.all) (omega (arith, s.from)) in
-    let bytes : file ≡ flat_map box_bytes (s.before ++ s.holder ∷ s.after) = h.has_roots.bytes ∙ ap (flat_map box_bytes) s.split in
+    ap (clearing_in start) f.split ∙ clearing_at 0 s.before s.holder s.after start (each_front IsBox s.before (s.holder ∷ s.after) f.all) (omega (arith, s.from)) in
+    let bytes : file ≡ flat_map box_bytes (s.before ++ s.holder ∷ s.after) =
+    h.has_roots.bytes ∙ ap (flat_map box_bytes) s.split in
     record {
       boxes = h.roots;
       has_roots = h.has_roots;
       are = without start len store s refl;
-      bytes = ap₂ (λ (c : Clearing) (f : List ℕ). cleared c f) how bytes ∙ left_is s.before s.holder s.after (row_range row) f.is s.from refl;
+      bytes =
+          ap₂ (λ (c : Clearing) (f : List ℕ). cleared c f) how bytes
+          ∙ left_is s.before s.holder s.after (row_range row) f.is s.from refl;
     }
 
 -- so what is left of it is one
-pub clears_store : (file : List ℕ) (rows : List RootBox) (start len : ℕ) (store : List ℕ) → AreRootsOf file rows → HasBmffStore file start len store → ClearsTo file (clearing_in start rows)
-clears_store file rows start len store r h = (base_roots h.holds.before h.holds.holder h.holds.after, store_base file rows start len store r h)
+pub clears_store : (file : List ℕ) (rows : List RootBox) (start len : ℕ) (store : List ℕ) → AreRootsOf file rows
+    → HasBmffStore file start len store → ClearsTo file (clearing_in start rows)
+clears_store file rows start len store r h =
+    (base_roots h.holds.before h.holds.holder h.holds.after, store_base file rows start len store r h)

@@ -1,7 +1,1 @@
 -- What is known of a value that was answered.
-use Rattle.std.specs.Prelude.{Result, Ok, Err, IfOk}
-
--- two things that are known of it give a third
-pub both_ok : {T E : Type 0} (r : Result T E) (P Q R : T → Type 0) → ((x : T) → P x → Q x → R x) → IfOk r P → IfOk r Q → IfOk r R
-both_ok (Ok x) P Q R f p q = f x p q
-both_ok (Err e) P Q R f p q = tt

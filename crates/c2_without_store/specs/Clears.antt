@@ -78,7 +78,7 @@ pub record AreRootsLeft (file : List ℕ) (c : Clearing) (rows : List RootBox) :
 
 -- ---- for private clauses
 
--- the same replacement in the part of a list from a place on
+-- the part of a list from a place on, where a piece replaces what stands in the whole list from `at` on
 abbrev pub written_from : ℕ → ℕ → List ℕ → List ℕ → List ℕ
 written_from from at piece xs = written_at (at - from) (drop (from - at) piece) xs
 

@@ -18,40 +18,40 @@ len_is (Cut range) file =
 len_is (Freed r) file =
     written_len (r.start + r.header) (replicate (r.length - r.header) 0) (written_at (r.start + 4) (codes "free") file) ∙ written_len (r.start + 4) (codes "free") file
 
--- of known bytes
+-- a cleared file is as long as is said, where its bytes are known
 pub cleared_size : (c : Clearing) (known : Option (List ℕ)) (len : ℕ) → ForSome known (λ bytes. length bytes ≡ len) → ForSome (option_map (cleared c) known) (λ bytes. length bytes ≡ cleared_len c len)
 cleared_size c None len h bytes e = absurd (cc (e))
 cleared_size c (Some file) len h bytes e =
     let is : bytes ≡ cleared c file = cc (e) in
     ap length is ∙ len_is c file ∙ ap (cleared_len c) (h file refl)
 
--- bytes
+-- each number of the list is a byte
 abbrev AreBytes : List ℕ → Type 0
 AreBytes xs = AllByRecursion (λ b. b < 2 ^ 8) xs
 
--- the first of them
+-- the first `n` of bytes are bytes
 bytes_take : (n : ℕ) (xs : List ℕ) → AreBytes xs → AreBytes (take n xs)
 bytes_take zero xs h = tt
 bytes_take (suc n) [] h = tt
 bytes_take (suc n) (x ∷ xs) h = (h.0, bytes_take n xs h.1)
 
--- those after
+-- what is left of bytes behind the first `n` is bytes
 bytes_drop : (n : ℕ) (xs : List ℕ) → AreBytes xs → AreBytes (drop n xs)
 bytes_drop zero xs h = h
 bytes_drop (suc n) [] h = tt
 bytes_drop (suc n) (x ∷ xs) h = bytes_drop n xs h.1
 
--- and two lists together
+-- bytes of two lists are bytes of both together
 bytes_append : (xs ys : List ℕ) → AreBytes xs → AreBytes ys → AreBytes (xs ++ ys)
 bytes_append [] ys h k = k
 bytes_append (x ∷ xs) ys h k = (h.0, bytes_append xs ys h.1 k)
 
--- zero bytes are
+-- zeros are bytes
 bytes_zero : (n : ℕ) → AreBytes (replicate n 0)
 bytes_zero zero = tt
 bytes_zero (suc n) = (omega arith, bytes_zero n)
 
--- so is the type of free space
+-- the type of a free-space box is bytes
 bytes_free : AreBytes (codes "free")
 bytes_free = (omega arith, (omega arith, (omega arith, (omega arith, tt))))
 

@@ -4,7 +4,7 @@ use Rattle.std.specs.List.{AllByRecursion}
 use Rattle.std.proofs.lemmas.List.{drop_all}
 use Rattle.c2_without_store.specs.Clears.{written_at, written_from}
 
--- the same, a place at a time
+-- a list with places from `at` on replaced by those of a piece, a place at a time
 abbrev put : ℕ → List ℕ → List ℕ → List ℕ
 put at piece [] = []
 put zero [] (x ∷ xs) = x ∷ xs
@@ -22,7 +22,7 @@ put_none at [] = refl
 put_none zero (x ∷ xs) = refl
 put_none (suc n) (x ∷ xs) = ap (λ (ys : List ℕ). x ∷ ys) (put_none n xs)
 
--- both say the same
+-- the places that are replaced at once are those that are replaced one at a time
 pub as_put : (at : ℕ) (piece xs : List ℕ) → written_at at piece xs ≡ put at piece xs
 as_put at piece [] =
     let none : length {A = ℕ} [] - at ≡ 0 = omega arith in
@@ -39,7 +39,7 @@ as_put (suc n) piece (x ∷ xs) =
     let skip : suc n + length piece ≡ suc (n + length piece) = omega arith in
     ap₂ (λ (k m : ℕ). x ∷ (take n xs ++ (take k piece ++ drop m (x ∷ xs)))) room skip ∙ ap (λ (ys : List ℕ). x ∷ ys) (as_put n piece xs)
 
--- as many places
+-- a list with places replaced is as long as the list
 put_len : (at : ℕ) (piece xs : List ℕ) → length (put at piece xs) ≡ length xs
 put_len at piece [] = refl
 put_len zero [] (x ∷ xs) = refl

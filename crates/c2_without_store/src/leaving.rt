@@ -9,7 +9,6 @@ use crate::clearing::ends;
 use c2_base::{Found, NoMemory};
 use c2_bmff_boxes::types::Roots;
 use c2_bmff_boxes::{RootBox, roots_of};
-use c2_bmff_insert_spec::a_base_has_no_store;
 use std::alloc::Global;
 
 // The type of free space.
@@ -73,8 +72,6 @@ pub fn roots_left(alloc: Global, roots: &Roots, found: &Option<Found>) -> Result
     ensures fill { (len : ℕ) → FillSource len 0 roots.now → IfOk result
         (FillSource (cleared_len (root_clearing found.now roots.now) len) 0) }
 {
-    // Only the prover needs this law.
-    a_base_has_no_store();
     let rows = roots.as_slice();
     let Some(store) = found else {
         let all = all_rows(alloc, rows)?;

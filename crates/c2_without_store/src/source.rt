@@ -20,7 +20,7 @@ pub trait Named {
     // the source's length
     ghost len: { ℕ };
 
-    // its bytes, where they are known
+    // the source's bytes, where they are known
     ghost known: { Option (List ℕ) };
 }
 

@@ -17,7 +17,7 @@ after_offset at (x ∷ xs) = to_be_bytes w64 at ++ x ∷ xs
 abbrev pub root_text : (ℕ → Bool) → PlacedBox → List ℕ
 root_text excludes b = after_offset b.at (kept_from excludes b.at (box_bytes b.box))
 
--- of each root box in order
+-- what the root boxes of a file give to the covered text, in order
 abbrev pub bmff_text : (ℕ → Bool) → List Box → List ℕ
 bmff_text excludes roots = flat_map (root_text excludes) (placed_from 0 roots)
 

@@ -119,7 +119,7 @@ pub record MeetsTest (b : Box) (test : ByteTest) : Type 0 where
 abbrev pub in_part : ℕ → Range → Bool
 in_part i part = nat_le part.start i && ((part.length == 0) || nat_lt i (part.start + part.length))
 
--- the same for all parts; without parts, the whole box
+-- a position counted from the box's start lies in one of these parts; without parts, anywhere in the box
 abbrev pub in_subset : ℕ → Option (List Range) → Bool
 in_subset i None = true
 in_subset i (Some parts) = list_any (in_part i) parts

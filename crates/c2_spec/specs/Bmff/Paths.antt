@@ -117,7 +117,7 @@ pub data HasChildren (parent : PlacedBox) : List PlacedBox → Type 0 where
   unfilled : ((boxes : List Box) → FillsPayload parent.box.payload boxes → ⊥)
       → HasChildren parent []
 
--- with a number k, the k-th
+-- the boxes that a step means: with a number k the k-th, without one all
 abbrev pub nth_of : {A : Type 0} → Option ℕ → List A → List A
 nth_of None bs = bs
 nth_of (Some k) bs = take 1 (drop (k - 1) bs)

@@ -34,7 +34,7 @@ packets_from header en (suc more) z body =
 abbrev pub packets_of : List ℕ → ℕ → List Segment
 packets_of store en = packets_from (take PACKET_HEADER_LEN store) en (packet_count (length store)) 1 (drop PACKET_HEADER_LEN store)
 
--- their bytes
+-- the bytes of the packets of a store under a number
 abbrev pub packets_bytes : List ℕ → ℕ → List ℕ
 packets_bytes store en = flat_map segment_bytes (packets_of store en)
 

@@ -1,11 +1,11 @@
-use Rattle.c2_assertion.proofs.InOrder.{bmff_in_order, data_in_order, ingredient_in_order}
+use Rattle.c2_assertion.proofs.TheLaws.{written_items_are_in_order_bmff, written_items_are_in_order_data, written_items_are_in_order_ingredient}
 use Rattle.c2_assertion.proofs.laws.written_items_are_in_order.Goals as goal
 
 pub returns-clause-data : goal.returns-clause-data
-returns-clause-data c = data_in_order
+returns-clause-data c = written_items_are_in_order_data
 
 pub returns-clause-bmff : goal.returns-clause-bmff
-returns-clause-bmff c = bmff_in_order
+returns-clause-bmff c = written_items_are_in_order_bmff
 
 pub returns-clause-ingredient : goal.returns-clause-ingredient
-returns-clause-ingredient c = ingredient_in_order
+returns-clause-ingredient c = written_items_are_in_order_ingredient

@@ -1,14 +1,11 @@
-use Rattle.c2_assertion.proofs.PlainFields.{bmff_plain, data_plain, ingredient_plain}
+use Rattle.c2_assertion.proofs.TheLaws.{written_items_have_plain_keys_bmff, written_items_have_plain_keys_data, written_items_have_plain_keys_ingredient}
 use Rattle.c2_assertion.proofs.laws.written_items_have_plain_keys.Goals as goal
 
--- of a data hash
 pub returns-clause-data : goal.returns-clause-data
-returns-clause-data c = data_plain
+returns-clause-data c = written_items_have_plain_keys_data
 
--- of a BMFF hash
 pub returns-clause-bmff : goal.returns-clause-bmff
-returns-clause-bmff c = bmff_plain
+returns-clause-bmff c = written_items_have_plain_keys_bmff
 
--- of an ingredient
 pub returns-clause-ingredient : goal.returns-clause-ingredient
-returns-clause-ingredient c = ingredient_plain
+returns-clause-ingredient c = written_items_have_plain_keys_ingredient

@@ -13,7 +13,9 @@ use Rattle.c2_bmff.proofs.matching.match_paths.Goals as goal
 
 -- root boxes that end in the source are rows inside it
 pub mark_all-requires : goal.mark_all-requires
-mark_all-requires g c = record { inside = rows_within (g.S.Source.len c.args.source.now) _ (subst (All (IsBoxWithin (g.S.Source.len c.args.source.now))) (sym c.as_slice.ensures.boxes) c.requires.inside) c.as_slice.ensures.headers }
+mark_all-requires g c =
+    record
+    { inside = rows_within (g.S.Source.len c.args.source.now) _ (subst (All (IsBoxWithin (g.S.Source.len c.args.source.now))) (sym c.as_slice.ensures.boxes) c.requires.inside) c.as_slice.ensures.headers }
 
 -- the ranges hold exactly the positions that the exclusions exclude together
 pub returns-in-Ok-clause-excluded : goal.returns-in-Ok-clause-excluded

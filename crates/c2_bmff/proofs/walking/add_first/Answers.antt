@@ -1,9 +1,10 @@
 use Rattle.std.proofs.Common.{◌∙◌, ◌||◌, Bool, sym, ap}
 use Rattle.std.specs.List.{list_any}
 use Rattle.c2_bmff.specs.Trails.{ahead}
-use Rattle.c2_bmff_rows.proofs.Lists.{any_append, or_false}
+use Rattle.c2_bmff_rows.proofs.Lists.{any_append}
 use Rattle.c2_bmff.proofs.TrailLemmas.{first_step, no_step}
 use Rattle.c2_bmff.proofs.walking.add_first.Goals as goal
+use Rattle.c2_lemmas.proofs.Bools.{or_false}
 
 -- the trail before the first step has what the exclusion has
 pub returns-in_ok-push : goal.returns-in_ok-push
@@ -17,4 +18,5 @@ returns-in_ok-push c file i rows =
 pub returns-in_default : goal.returns-in_default
 returns-in_default c file i rows =
     let old : Bool = list_any (ahead file c.args.entries.now i rows) c.args.trails.now.items in
-    sym (ap (λ (b : Bool). old || b) (no_step file c.args.entries.now i rows c.args.k c.requires c.in_default.ensures.more) ∙ or_false old)
+    sym
+    (ap (λ (b : Bool). old || b) (no_step file c.args.entries.now i rows c.args.k c.requires c.in_default.ensures.more) ∙ or_false old)

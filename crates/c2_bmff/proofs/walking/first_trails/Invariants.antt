@@ -7,4 +7,6 @@ use Rattle.c2_bmff.proofs.walking.first_trails.Given as goal
 
 -- the trails are those of the exclusions so far
 abbrev pub invariant-loop-k : goal.invariant-loop-k
-invariant-loop-k l = (file : List ℕ) (i : ℕ) (rows : List RootBox) → list_any (ahead file l.entries i rows) l.trails.items ≡ list_any (excludes_any file rows i) (take l.k l.entries)
+invariant-loop-k l =
+    (file : List ℕ) (i : ℕ) (rows : List RootBox) → list_any (ahead file l.entries i rows) l.trails.items ≡ list_any
+    (excludes_any file rows i) (take l.k l.entries)

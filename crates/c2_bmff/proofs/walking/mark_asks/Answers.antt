@@ -25,10 +25,15 @@ loop-ask-preserved g c =
         later = omega (arith, call.reads.stays.later, front.stays.later, before.stays.later);
       };
       count = call.reads.quiet ∙ front.cause.ok ∙ before.count;
-      within = subst (λ (n : ℕ). All (IsRangeWithin n) c.mark_row.new.ranges.items) (front.stays.same_len ∙ before.stays.same_len) call.within;
+      within =
+          subst (λ (n : ℕ). All (IsRangeWithin n) c.mark_row.new.ranges.items)
+          (front.stays.same_len ∙ before.stays.same_len) call.within;
       same = λ file known i.
-          call.same file (front.stays.same_bytes ∙ before.stays.same_bytes ∙ known) i ∙ ap (λ (a : Bool). a || marks file ask i c.args.row) (before.same file known i)
-          ∙ ap (λ (e : Exclusion). (is_excluded c.args.ranges.now.items i || list_any (λ (x : Exclusion). marks file x i c.args.row) (take k c.args.asks.now)) || marks file e i c.args.row) c.ask-item.is
+          call.same file (front.stays.same_bytes ∙ before.stays.same_bytes ∙ known) i
+          ∙ ap (λ (a : Bool). a || marks file ask i c.args.row) (before.same file known i)
+          ∙ ap
+          (λ (e : Exclusion). (is_excluded c.args.ranges.now.items i || list_any (λ (x : Exclusion). marks file x i c.args.row) (take k c.args.asks.now)) || marks file e i c.args.row)
+          c.ask-item.is
           ∙ sym (any_more (λ (e : Exclusion). marks file e i c.args.row) c.args.asks.now k ask (is_excluded c.args.ranges.now.items i) c.loop-ask-test.true);
       few = front.few;
       front = λ file known. front.front file (before.stays.same_bytes ∙ known);
@@ -37,7 +42,10 @@ loop-ask-preserved g c =
 -- after the last, what all of them exclude
 pub returns-clause-same : goal.returns-clause-same
 returns-clause-same g c file known i =
-    c.loop-ask.invariant.same file known i ∙ ap (λ (es : List Exclusion). is_excluded c.args.ranges.now.items i || list_any (λ (e : Exclusion). marks file e i c.args.row) es) (take_all c.loop-ask.ask-index c.args.asks.now c.loop-ask-test.false)
+    c.loop-ask.invariant.same file known i
+    ∙ ap
+    (λ (es : List Exclusion). is_excluded c.args.ranges.now.items i || list_any (λ (e : Exclusion). marks file e i c.args.row) es)
+    (take_all c.loop-ask.ask-index c.args.asks.now c.loop-ask-test.false)
 
 -- where the ranges hold the box whole, the other exclusions add nothing
 pub returns-then-is_whole-clause-same : goal.returns-then-is_whole-clause-same

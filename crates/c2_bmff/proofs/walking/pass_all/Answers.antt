@@ -47,6 +47,10 @@ returns c file i rows =
     let es = c.args.entries.now in
     let end : length c.loop-k.trails ≤ c.loop-k.k = omega (arith, c.loop-k-test.false, before.size) in
     let end' : length c.args.trails.now ≤ c.loop-k.k = omega (arith, end, before.size) in
-    ap (λ (xs : List Trail). found file es i c.args.row c.loop-k.here.items c.loop-k.below.items || list_any (ahead file es i rows) xs) (sym (take_all c.loop-k.k c.loop-k.trails end))
+    ap
+    (λ (xs : List Trail). found file es i c.args.row c.loop-k.here.items c.loop-k.below.items || list_any (ahead file es i rows) xs)
+    (sym (take_all c.loop-k.k c.loop-k.trails end))
     ∙ before.same file i rows
-    ∙ ap (λ (xs : List Trail). found file es i c.args.row c.args.here.now.items c.args.below.now.items || list_any (ahead file es i (c.args.row ∷ rows)) xs) (take_all c.loop-k.k c.args.trails.now end')
+    ∙ ap
+    (λ (xs : List Trail). found file es i c.args.row c.args.here.now.items c.args.below.now.items || list_any (ahead file es i (c.args.row ∷ rows)) xs)
+    (take_all c.loop-k.k c.args.trails.now end')

@@ -8,9 +8,10 @@ use Rattle.c2_bmff_rows.specs.Children.{kids}
 use Rattle.c2_bmff.specs.Trails.{IsLevelWithin, ahead, level_ahead}
 use Rattle.c2_bmff_rows.specs.declared.row.RootBox.{RootBox}
 use Rattle.c2_bmff.specs.declared.walking.Trail.{Trail}
-use Rattle.c2_bmff_rows.proofs.Lists.{any_append, or_false}
+use Rattle.c2_bmff_rows.proofs.Lists.{any_append}
 use Rattle.c2_bmff.proofs.TrailLemmas.{level_none, turn_joins}
 use Rattle.c2_bmff.proofs.walking.turn.Goals as goal
+use Rattle.c2_lemmas.proofs.Bools.{or_false}
 
 -- a list of siblings that were all visited has nothing ahead
 pub returns-then-next-len-clause-same : goal.returns-then-next-len-clause-same
@@ -18,7 +19,8 @@ returns-then-next-len-clause-same g c file known i =
     let es = c.args.entries.now in
     let l = c.args.level in
     let others : Bool = list_any (level_ahead file es i) c.args.levels.now.items in
-    sym (ap (λ (b : Bool). is_excluded c.args.marking.now.ranges.items i || b) (ap (λ (b : Bool). others || b) (level_none file es i (drop l.next l.rows.items) l.trails.items (drop_all l.next l.rows.items (omega (arith, c.if-next-len.true, c.len.ensures)))) ∙ or_false others))
+    sym
+    (ap (λ (b : Bool). is_excluded c.args.marking.now.ranges.items i || b) (ap (λ (b : Bool). others || b) (level_none file es i (drop l.next l.rows.items) l.trails.items (drop_all l.next l.rows.items (omega (arith, c.if-next-len.true, c.len.ensures)))) ∙ or_false others))
 
 -- the rows of this list lie inside the source as before
 pub open_row-requires-clause-levels : goal.open_row-requires-clause-levels
@@ -33,7 +35,9 @@ returns-in-Ok-open_row-clause-same g c file known i =
     let rows : List RootBox = c.args.level.rows.items in
     let next : ℕ = c.args.level.next in
     let row : RootBox = c.index-row.result.now in
-    let first : drop next rows ≡ row ∷ drop (next + 1) rows = drop_more rows next row (omega (arith, c.if-next-len.false, c.len.ensures)) ∙ ap (λ (r : RootBox). r ∷ drop (next + 1) rows) (sym c.index-row.ensures) in
+    let first : drop next rows ≡ row ∷ drop (next + 1) rows =
+    drop_more rows next row (omega (arith, c.if-next-len.false, c.len.ensures))
+    ∙ ap (λ (r : RootBox). r ∷ drop (next + 1) rows) (sym c.index-row.ensures) in
     let others : Bool = list_any (level_ahead file es i) c.args.levels.now.items in
     let below : Bool = list_any (ahead file es i (kids file row)) c.in-Ok.below.items in
     let beside : Bool = list_any (ahead file es i (drop (next + 1) rows)) c.visit.new.trails in
@@ -43,8 +47,12 @@ returns-in-Ok-open_row-clause-same g c file known i =
     take-append-le c.args.level.trails.len c.visit.new.trails (drop (length c.visit.new.trails) c.args.level.trails.items) (omega (arith, same)) ∙ take_all c.args.level.trails.len c.visit.new.trails (omega (arith, same)) in
     ap (λ (b : Bool). after || b)
     (c.in-Ok-open_row.ensures.ahead file (c.in-Ok.ensures.stays.same_bytes ∙ known) es i ∙ ap (λ (b : Bool). b || below) (ap (list_any (level_ahead file es i)) c.in_ok-add_level.ensures ∙ any_append (level_ahead file es i) c.args.levels.now.items _))
-    ∙ ap (λ (ts : List Trail). after || ((others || list_any (ahead file es i (drop (next + 1) rows)) ts) || below)) written
-    ∙ turn_joins after (is_excluded c.args.marking.now.ranges.items i) others beside below (level_ahead file es i c.args.level)
+    ∙ ap (λ (ts : List Trail). after || ((others || list_any (ahead file es i (drop (next + 1) rows)) ts) || below))
+    written
+    ∙ turn_joins after (is_excluded c.args.marking.now.ranges.items i) others beside below
+    (level_ahead file es i c.args.level)
     (c.in-Ok.ensures.same file known i (drop (next + 1) rows)
-    ∙ ap (λ (xs : List RootBox). is_excluded c.args.marking.now.ranges.items i || list_any (ahead file es i xs) c.deref_mut.result.now) (sym first)
+    ∙ ap
+    (λ (xs : List RootBox). is_excluded c.args.marking.now.ranges.items i || list_any (ahead file es i xs) c.deref_mut.result.now)
+    (sym first)
     ∙ ap (λ ts. is_excluded c.args.marking.now.ranges.items i || list_any (ahead file es i (drop next rows)) ts) c.deref_mut.ensures.value)

@@ -14,9 +14,13 @@ boxes-preserved g c =
     let call = c.in-Ok.ensures in
     let es = c.args.entries.now in
     record {
-      stays = record { same_len = call.stays.same_len ∙ before.stays.same_len; same_bytes = call.stays.same_bytes ∙ before.stays.same_bytes; later = omega (arith, call.stays.later, before.stays.later) };
+      stays =
+          record
+          { same_len = call.stays.same_len ∙ before.stays.same_len; same_bytes = call.stays.same_bytes ∙ before.stays.same_bytes; later = omega (arith, call.stays.later, before.stays.later) };
       count = call.count ∙ before.count;
-      within = c.in_ok-full.ensures.within _ (subst (λ (n : ℕ). All (IsRangeWithin n) c.turn.new.marking.ranges.items) before.stays.same_len call.within);
+      within =
+          c.in_ok-full.ensures.within _
+          (subst (λ (n : ℕ). All (IsRangeWithin n) c.turn.new.marking.ranges.items) before.stays.same_len call.within);
       levels = subst (λ (n : ℕ). All (IsLevelWithin n) c.turn.new.levels.items) before.stays.same_len call.levels;
       same = λ file known i.
           ap (λ (b : Bool). b || list_any (level_ahead file es i) c.turn.new.levels.items) (c.in_ok-full.ensures.same i)

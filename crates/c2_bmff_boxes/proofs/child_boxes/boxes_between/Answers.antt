@@ -24,5 +24,6 @@ returns-in-Ok-Some-clause-list g c file known =
 pub returns-in-Ok-None-clause-list : goal.returns-in-Ok-None-clause-list
 returns-in-Ok-None-clause-list g c file known =
     let size : length file ≡ g.S.Source.len c.args.source.now = g.met.S.Source.known_len c.args.source.now file known in
-    list_is file c.args.start c.args.end None (are_bytes file (g.met.S.Source.known_bytes c.args.source.now file known)) (omega (arith, size, g.met.S.Source.fits c.args.source.now))
+    list_is file c.args.start c.args.end None (are_bytes file (g.met.S.Source.known_bytes c.args.source.now file known))
+    (omega (arith, size, g.met.S.Source.fits c.args.source.now))
     c.requires.ordered (omega (arith, size, c.requires.inside)) (rw c.in-Ok-None.field-0-is at (c.in-Ok-None.ensures.list file known))

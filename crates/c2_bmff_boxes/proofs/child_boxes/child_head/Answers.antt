@@ -9,7 +9,9 @@ use Rattle.c2_bmff_boxes.proofs.child_boxes.child_head.Goals as goal
 pub returns-then-head-clause-read : goal.returns-then-head-clause-read
 returns-then-head-clause-read g c file known =
     let len : length file ≡ g.S.Source.len c.args.source.now = g.met.S.Source.known_len c.args.source.now file known in
-    let left : c.args.left ≡ length (take c.args.left (drop c.args.at file)) = sym (length-take-le c.args.left (drop c.args.at file) (omega (arith, len, length-drop c.args.at file, c.requires.inside))) in
+    let left : c.args.left ≡ length (take c.args.left (drop c.args.at file)) =
+    sym
+    (length-take-le c.args.left (drop c.args.at file) (omega (arith, len, length-drop c.args.at file, c.requires.inside))) in
     open_head (take c.args.left (drop c.args.at file)) _ c.args.left c.in-Ok.head (c.in_ok-fill_first.ensures.filled file known ∙ ap (λ n. take n (drop c.args.at file)) c.min-count.ensures ∙ take_first 16 c.args.left (drop c.args.at file)) left c.in-Ok.ensures.ok c.if-head.true
 
 -- a header that states its size and passes is that of a child in what is left
@@ -25,5 +27,7 @@ returns-else-head-clause-read g c file known =
 pub returns-in-Err-clause-read : goal.returns-in-Err-clause-read
 returns-in-Err-clause-read g c file known =
     let len : length file ≡ g.S.Source.len c.args.source.now = g.met.S.Source.known_len c.args.source.now file known in
-    let left : c.args.left ≡ length (take c.args.left (drop c.args.at file)) = sym (length-take-le c.args.left (drop c.args.at file) (omega (arith, len, length-drop c.args.at file, c.requires.inside))) in
+    let left : c.args.left ≡ length (take c.args.left (drop c.args.at file)) =
+    sym
+    (length-take-le c.args.left (drop c.args.at file) (omega (arith, len, length-drop c.args.at file, c.requires.inside))) in
     bad_head (take c.args.left (drop c.args.at file)) _ c.args.left c.in-Err.field-0 (c.in_ok-fill_first.ensures.filled file known ∙ ap (λ n. take n (drop c.args.at file)) c.min-count.ensures ∙ take_first 16 c.args.left (drop c.args.at file)) left c.in-Err.ensures.err

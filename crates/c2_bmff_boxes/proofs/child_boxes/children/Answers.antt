@@ -21,12 +21,16 @@ returns-in-Ok-None-clause-rows g c file known =
 -- they end in the source
 pub returns-in-Ok-Some-clause-within : goal.returns-in-Ok-Some-clause-within
 returns-in-Ok-Some-clause-within g c =
-    let fill : FillSource (c.args.parent.start + c.args.parent.length) (c.args.parent.start + c.args.parent.header) c.in-Ok-Some.rows.items = rw c.in-Ok-Some.field-0-is at c.in-Ok-Some.ensures.fill in
+    let fill : FillSource (c.args.parent.start + c.args.parent.length) (c.args.parent.start + c.args.parent.header) c.in-Ok-Some.rows.items =
+    rw c.in-Ok-Some.field-0-is at c.in-Ok-Some.ensures.fill in
     fill_rows (c.args.parent.start + c.args.parent.length) (c.args.parent.start + c.args.parent.header) (g.S.Source.len c.args.source.now) c.in-Ok-Some.rows.items fill c.requires.inside.0
 
 -- and fill the payload
 pub returns-in-Ok-Some-clause-total : goal.returns-in-Ok-Some-clause-total
 returns-in-Ok-Some-clause-total g c =
-    let fill : FillSource (c.args.parent.start + c.args.parent.length) (c.args.parent.start + c.args.parent.header) c.in-Ok-Some.rows.items = rw c.in-Ok-Some.field-0-is at c.in-Ok-Some.ensures.fill in
-    let total : c.args.parent.start + c.args.parent.header + rows_len c.in-Ok-Some.rows.items ≡ c.args.parent.start + c.args.parent.length = fill_total (c.args.parent.start + c.args.parent.length) (c.args.parent.start + c.args.parent.header) c.in-Ok-Some.rows.items fill in
+    let fill : FillSource (c.args.parent.start + c.args.parent.length) (c.args.parent.start + c.args.parent.header) c.in-Ok-Some.rows.items =
+    rw c.in-Ok-Some.field-0-is at c.in-Ok-Some.ensures.fill in
+    let total : c.args.parent.start + c.args.parent.header + rows_len c.in-Ok-Some.rows.items ≡ c.args.parent.start + c.args.parent.length =
+    fill_total (c.args.parent.start + c.args.parent.length) (c.args.parent.start + c.args.parent.header)
+    c.in-Ok-Some.rows.items fill in
     omega (arith, total)

@@ -4,7 +4,8 @@ use Rattle.c2_bmff_boxes.proofs.header.box_head.Goals as goal
 
 -- a header that fails is a box that fails
 pub returns-in-Err-clause-err : goal.returns-in-Err-clause-err
-returns-in-Err-clause-err c = box_of_bad c.args.left c.args.bytes.now c.in-Err.error c.requires.first c.in-Err.ensures.err
+returns-in-Err-clause-err c =
+    box_of_bad c.args.left c.args.bytes.now c.in-Err.error c.requires.first c.in-Err.ensures.err
 
 -- a `uuid` box without room for its user type fails
 pub returns-then-lacks_user_type-clause-err : goal.returns-then-lacks_user_type-clause-err
@@ -15,7 +16,9 @@ pub returns-else-lacks_user_type-clause-ok : goal.returns-else-lacks_user_type-c
 returns-else-lacks_user_type-clause-ok c =
     let is = c.in-Ok.ensures.ok in
     record {
-      good = box_of_good c.args.left c.args.bytes.now c.in-Ok.head false c.requires.first is (sym c.lacks_user_type.ensures ∙ c.if-lacks_user_type.false);
+      good =
+          box_of_good c.args.left c.args.bytes.now c.in-Ok.head false c.requires.first is
+          (sym c.lacks_user_type.ensures ∙ c.if-lacks_user_type.false);
       header = is.header;
       length = is.length;
       kind = is.kind;

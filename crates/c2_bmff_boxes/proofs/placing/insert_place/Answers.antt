@@ -23,20 +23,25 @@ place_behind-requires c =
 -- without an index, the place is that in the whole file
 pub returns-in_default-clause-place : goal.returns-in_default-clause-place
 returns-in_default-clause-place c file r =
-    c.place_behind.ensures ∙ ap (place_behind 0) (c.as_slice-rows.ensures.boxes ∙ r.are) ∙ whole_is r.boxes (form_boxes r.boxes r.has_roots.forms)
+    c.place_behind.ensures ∙ ap (place_behind 0) (c.as_slice-rows.ensures.boxes ∙ r.are)
+    ∙ whole_is r.boxes (form_boxes r.boxes r.has_roots.forms)
     ∙ ap (λ (o : Option ℕ). place_without o r.boxes) (sym c.in_default.is)
 
 -- by the rows alone
 pub returns-in_default-clause-rows : goal.returns-in_default-clause-rows
 returns-in_default-clause-rows c =
-    c.place_behind.ensures ∙ ap (place_behind 0) c.as_slice-rows.ensures.boxes ∙ none_less c.args.roots.now ∙ ap (λ (o : Option ℕ). place_less o c.args.roots.now) (sym c.in_default.is)
+    c.place_behind.ensures ∙ ap (place_behind 0) c.as_slice-rows.ensures.boxes ∙ none_less c.args.roots.now
+    ∙ ap (λ (o : Option ℕ). place_less o c.args.roots.now) (sym c.in_default.is)
 
 -- and lies in it
 pub returns-in_default-clause-inside : goal.returns-in_default-clause-inside
 returns-in_default-clause-inside c =
     let f = c.as_slice-rows.ensures.fill in
-    let room : HasRoom 0 c.args.roots.now = subst (HasRoom 0) c.as_slice-rows.ensures.boxes (room_whole f.size f.low c.as_slice-rows.result.now f.fill f.small) in
-    inside_whole c.place_behind.result c.args.roots.now c.args.skip (c.place_behind.ensures ∙ ap (place_behind 0) c.as_slice-rows.ensures.boxes) c.in_default.is room
+    let room : HasRoom 0 c.args.roots.now =
+    subst (HasRoom 0) c.as_slice-rows.ensures.boxes
+    (room_whole f.size f.low c.as_slice-rows.result.now f.fill f.small) in
+    inside_whole c.place_behind.result c.args.roots.now c.args.skip
+    (c.place_behind.ensures ∙ ap (place_behind 0) c.as_slice-rows.ensures.boxes) c.in_default.is room
 
 -- so do those before the last
 pub place_behind-requires-then-skip-rows : goal.place_behind-requires-then-skip-rows
@@ -48,7 +53,8 @@ place_behind-requires-then-skip-rows c =
 pub returns-then-skip-rows-clause-place : goal.returns-then-skip-rows-clause-place
 returns-then-skip-rows-clause-place c file r =
     let are = c.as_slice-rows.ensures.boxes ∙ r.are in
-    let last : c.in-Some.skip + 1 ≡ length r.boxes = omega (arith, c.if-skip-rows.true, ap length are, length-rows r.boxes) in
+    let last : c.in-Some.skip + 1 ≡ length r.boxes =
+    omega (arith, c.if-skip-rows.true, ap length are, length-rows r.boxes) in
     c.place_behind-then-skip-rows.ensures ∙ ap (λ (rows : List RootBox). place_behind 0 (take c.in-Some.skip rows)) are
     ∙ front_is c.in-Some.skip r.boxes (form_boxes r.boxes r.has_roots.forms) last ∙ ap (λ (o : Option ℕ). place_without o r.boxes) (sym c.in-Some.is)
 
@@ -73,8 +79,10 @@ pub place_behind-requires-2 : goal.place_behind-requires-2
 place_behind-requires-2 c =
     let f = c.as_slice-rows.ensures.fill in
     let rows : List RootBox = c.as_slice-rows.result.now in
-    let has : c.in-Some.skip < length c.args.roots.now = subst (λ (o : Option ℕ). IfSome o (λ i. i < length c.args.roots.now)) c.in-Some.is c.requires in
-    let more : c.in-Some.skip + 1 < length rows = omega (arith, has, ap length c.as_slice-rows.ensures.boxes, c.if-skip-rows.false) in
+    let has : c.in-Some.skip < length c.args.roots.now =
+    subst (λ (o : Option ℕ). IfSome o (λ i. i < length c.args.roots.now)) c.in-Some.is c.requires in
+    let more : c.in-Some.skip + 1 < length rows =
+    omega (arith, has, ap length c.as_slice-rows.ensures.boxes, c.if-skip-rows.false) in
     subst (λ (n : ℕ). HasRoom n rows) (skipped_at c.in-Some.skip rows no_row (omega (arith, more))) (room_skip f.size f.low c.in-Some.skip rows f.fill f.small more)
 
 -- without it, the place is that at the last, less its length
@@ -82,8 +90,10 @@ pub returns-clause-place : goal.returns-clause-place
 returns-clause-place c file r =
     let rows : List RootBox = c.as_slice-rows.result.now in
     let are : rows ≡ rows_of r.boxes = c.as_slice-rows.ensures.boxes ∙ r.are in
-    let has : c.in-Some.skip < length c.args.roots.now = subst (λ (o : Option ℕ). IfSome o (λ i. i < length c.args.roots.now)) c.in-Some.is c.requires in
-    let more : c.in-Some.skip + 1 < length rows = omega (arith, has, ap length c.as_slice-rows.ensures.boxes, c.if-skip-rows.false) in
+    let has : c.in-Some.skip < length c.args.roots.now =
+    subst (λ (o : Option ℕ). IfSome o (λ i. i < length c.args.roots.now)) c.in-Some.is c.requires in
+    let more : c.in-Some.skip + 1 < length rows =
+    omega (arith, has, ap length c.as_slice-rows.ensures.boxes, c.if-skip-rows.false) in
     c.place_behind-2.ensures ∙ ap (λ (n : ℕ). place_behind n rows) (sym (skipped_at c.in-Some.skip rows no_row (omega (arith, more))))
     ∙ ap (λ (xs : List RootBox). place_behind (skipped_len (Some c.in-Some.skip) xs) xs) are
     ∙ middle_is c.in-Some.skip r.boxes (form_boxes r.boxes r.has_roots.forms) (omega (arith, more, ap length are, length-rows r.boxes))
@@ -94,7 +104,8 @@ pub returns-clause-rows : goal.returns-clause-rows
 returns-clause-rows c =
     let rows : List RootBox = c.as_slice-rows.result.now in
     let same : rows ≡ c.args.roots.now = c.as_slice-rows.ensures.boxes in
-    let has : c.in-Some.skip < length c.args.roots.now = subst (λ (o : Option ℕ). IfSome o (λ i. i < length c.args.roots.now)) c.in-Some.is c.requires in
+    let has : c.in-Some.skip < length c.args.roots.now =
+    subst (λ (o : Option ℕ). IfSome o (λ i. i < length c.args.roots.now)) c.in-Some.is c.requires in
     let more : c.in-Some.skip + 1 < length rows = omega (arith, has, ap length same, c.if-skip-rows.false) in
     c.place_behind-2.ensures ∙ ap (λ (n : ℕ). place_behind n rows) (sym (skipped_at c.in-Some.skip rows no_row (omega (arith, more))))
     ∙ middle_less c.in-Some.skip rows more ∙ ap (place_less (Some c.in-Some.skip)) same ∙ ap (λ (o : Option ℕ). place_less o c.args.roots.now) (sym c.in-Some.is)
@@ -105,8 +116,12 @@ returns-clause-inside c =
     let f = c.as_slice-rows.ensures.fill in
     let rows : List RootBox = c.as_slice-rows.result.now in
     let same : rows ≡ c.args.roots.now = c.as_slice-rows.ensures.boxes in
-    let has : c.in-Some.skip < length c.args.roots.now = subst (λ (o : Option ℕ). IfSome o (λ i. i < length c.args.roots.now)) c.in-Some.is c.requires in
+    let has : c.in-Some.skip < length c.args.roots.now =
+    subst (λ (o : Option ℕ). IfSome o (λ i. i < length c.args.roots.now)) c.in-Some.is c.requires in
     let more : c.in-Some.skip + 1 < length rows = omega (arith, has, ap length same, c.if-skip-rows.false) in
-    let room : HasRoom (skipped_len (Some c.in-Some.skip) rows) rows = room_skip f.size f.low c.in-Some.skip rows f.fill f.small more in
-    let at : c.place_behind-2.result ≡ place_behind (skipped_len (Some c.in-Some.skip) rows) rows = c.place_behind-2.ensures ∙ ap (λ (n : ℕ). place_behind n rows) (sym (skipped_at c.in-Some.skip rows no_row (omega (arith, more)))) in
+    let room : HasRoom (skipped_len (Some c.in-Some.skip) rows) rows =
+    room_skip f.size f.low c.in-Some.skip rows f.fill f.small more in
+    let at : c.place_behind-2.result ≡ place_behind (skipped_len (Some c.in-Some.skip) rows) rows =
+    c.place_behind-2.ensures
+    ∙ ap (λ (n : ℕ). place_behind n rows) (sym (skipped_at c.in-Some.skip rows no_row (omega (arith, more)))) in
     inside_middle c.place_behind-2.result c.args.roots.now c.args.skip c.in-Some.skip (at ∙ ap (λ (xs : List RootBox). place_behind (skipped_len (Some c.in-Some.skip) xs) xs) same) c.in-Some.is (subst (λ (xs : List RootBox). HasRoom (skipped_len (Some c.in-Some.skip) xs) xs) same room)

@@ -6,4 +6,6 @@ use Rattle.c2_bmff_boxes.proofs.provenance.locate.Goals as goal
 
 -- root boxes that end in the source are rows inside it
 pub search-requires : goal.search-requires
-search-requires g c = record { inside = rows_within (g.S.Source.len c.args.source.now) _ (subst (All (IsBoxWithin (g.S.Source.len c.args.source.now))) (sym c.as_slice.ensures.boxes) c.requires.inside) c.as_slice.ensures.headers }
+search-requires g c =
+    record
+    { inside = rows_within (g.S.Source.len c.args.source.now) _ (subst (All (IsBoxWithin (g.S.Source.len c.args.source.now))) (sym c.as_slice.ensures.boxes) c.requires.inside) c.as_slice.ensures.headers }

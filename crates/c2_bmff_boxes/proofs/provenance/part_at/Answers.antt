@@ -10,7 +10,10 @@ pub returns-clause-part : goal.returns-clause-part
 returns-clause-part g c file known =
     let size : length file ≡ g.S.Source.len c.args.source.now = g.met.S.Source.known_len c.args.source.now file known in
     let len = c.args.row.length - c.args.row.header in
-    let payload : length (payload_at file c.args.row) ≡ len = length-take-le len (drop (c.args.row.start + c.args.row.header) file) (omega (arith, length-drop (c.args.row.start + c.args.row.header) file, size, c.requires.inside, c.requires.ordered)) in
+    let payload : length (payload_at file c.args.row) ≡ len =
+    length-take-le len (drop (c.args.row.start + c.args.row.header) file)
+    (omega (arith, length-drop (c.args.row.start + c.args.row.header) file, size, c.requires.inside, c.requires.ordered)) in
     c.part_of.ensures.part
-    ∙ ap₂ (first_part c.args.found) (sym payload) (c.in_ok-fill_first.ensures.filled file known ∙ ap (λ n. take n (drop (c.args.row.start + c.args.row.header) file)) c.min-count.ensures ∙ take_first 53 len (drop (c.args.row.start + c.args.row.header) file))
+    ∙ ap₂ (first_part c.args.found) (sym payload)
+    (c.in_ok-fill_first.ensures.filled file known ∙ ap (λ n. take n (drop (c.args.row.start + c.args.row.header) file)) c.min-count.ensures ∙ take_first 53 len (drop (c.args.row.start + c.args.row.header) file))
     ∙ part_same c.args.found (payload_at file c.args.row)

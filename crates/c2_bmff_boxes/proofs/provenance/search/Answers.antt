@@ -37,25 +37,33 @@ loop-row-preserved g c =
     let before = c.loop-row.invariant in
     let k = c.loop-row.row-index in
     let r : RootBox = slice_index_or c.args.rows.now k no_row in
-    let first : drop k c.args.rows.now ≡ r ∷ drop (suc k) c.args.rows.now = drop-cons c.args.rows.now k no_row c.loop-row-test.true in
+    let first : drop k c.args.rows.now ≡ r ∷ drop (suc k) c.args.rows.now =
+    drop-cons c.args.rows.now k no_row c.loop-row-test.true in
     elim c.if-eq.branch [
       | then-eq+in-Ok w ↦ rw w.source-is (rw w.found-is (record {
-        stays = record { same_len = w.in-Ok.ensures.stays.same_len ∙ before.stays.same_len; same_bytes = w.in-Ok.ensures.stays.same_bytes ∙ before.stays.same_bytes; later = omega (arith, w.in-Ok.ensures.stays.later, before.stays.later) };
+        stays =
+            record
+            { same_len = w.in-Ok.ensures.stays.same_len ∙ before.stays.same_len; same_bytes = w.in-Ok.ensures.stays.same_bytes ∙ before.stays.same_bytes; later = omega (arith, w.in-Ok.ensures.stays.later, before.stays.later) };
         count = w.in-Ok.ensures.count ∙ before.count;
-        within = subst (λ (n : ℕ). IfSome w.step.new.found (IsFoundWithin n)) before.stays.same_len w.in-Ok.ensures.after;
-        searched = λ file known. row_uuid file c.args.rows.now k r (drop (suc k) c.args.rows.now) c.loop-row.found w.step.new.found first (before.searched file known) (sym w.if-eq.ensures) (w.in-Ok.ensures.steps file (before.stays.same_bytes ∙ known));
+        within =
+            subst (λ (n : ℕ). IfSome w.step.new.found (IsFoundWithin n)) before.stays.same_len w.in-Ok.ensures.after;
+        searched =
+            λ file known. row_uuid file c.args.rows.now k r (drop (suc k) c.args.rows.now) c.loop-row.found w.step.new.found first (before.searched file known) (sym w.if-eq.ensures) (w.in-Ok.ensures.steps file (before.stays.same_bytes ∙ known));
       }))
       | else-eq w ↦ rw w.source-is (rw w.found-is (record {
         stays = before.stays;
         count = before.count;
         within = before.within;
-        searched = λ file known. row_not file c.args.rows.now k r (drop (suc k) c.args.rows.now) c.loop-row.found first (before.searched file known) (sym w.if-eq.ensures);
+        searched =
+            λ file known. row_not file c.args.rows.now k r (drop (suc k) c.args.rows.now) c.loop-row.found first (before.searched file known) (sym w.if-eq.ensures);
       }))
     ]
 
 -- after the last root box, what is found is the file's store, or none
 pub returns-clause-found : goal.returns-clause-found
-returns-clause-found g c file known roots = rows_end file c.args.rows.now c.loop-row.row-index c.loop-row.found c.loop-row-test.false roots (c.loop-row.invariant.searched file known)
+returns-clause-found g c file known roots =
+    rows_end file c.args.rows.now c.loop-row.row-index c.loop-row.found c.loop-row-test.false roots
+    (c.loop-row.invariant.searched file known)
 
 -- a C2PA box is refused where it stands
 pub returns-in-Err-clause-cause : goal.returns-in-Err-clause-cause

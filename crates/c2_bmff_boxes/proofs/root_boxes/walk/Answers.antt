@@ -26,7 +26,9 @@ pub returns-then-len-ge-MAX_ROOT_BOXES-clause-fault : goal.returns-then-len-ge-M
 returns-then-len-ge-MAX_ROOT_BOXES-clause-fault g c file known =
     let len : length file ≡ c.args.size = g.met.S.Source.known_len c.args.source.now file known ∙ sym c.requires.size in
     let many : most_roots ≤ length c.boxes.rows.items = omega (arith, c.if-len-ge-MAX_ROOT_BOXES.true, c.len.ensures) in
-    walks_fault file c.boxes.at c.boxes.rows.items TooManyBoxes (c.boxes.invariant.walked file known) (omega (arith, len, c.boxes-test.true)) c.boxes.invariant.few (many_fault (length c.boxes.rows.items) c.boxes.at (drop c.boxes.at file) many)
+    walks_fault file c.boxes.at c.boxes.rows.items TooManyBoxes (c.boxes.invariant.walked file known)
+    (omega (arith, len, c.boxes-test.true)) c.boxes.invariant.few
+    (many_fault (length c.boxes.rows.items) c.boxes.at (drop c.boxes.at file) many)
 
 -- a root box that fails its tests is the first fault of the file
 pub returns-in-Err-clause-fault : goal.returns-in-Err-clause-fault
@@ -44,7 +46,8 @@ boxes-preserved g c =
     let call = c.in-Ok.ensures in
     let more = c.in_ok-keep.ensures in
     let few : length c.boxes.rows.items < most_roots = omega (arith, c.if-len-ge-MAX_ROOT_BOXES.false, c.len.ensures) in
-    let one : length (c.boxes.rows.items ++ row_at c.boxes.at c.in-Ok.head ∷ []) ≡ length c.boxes.rows.items + 1 = length-append c.boxes.rows.items (row_at c.boxes.at c.in-Ok.head ∷ []) in
+    let one : length (c.boxes.rows.items ++ row_at c.boxes.at c.in-Ok.head ∷ []) ≡ length c.boxes.rows.items + 1 =
+    length-append c.boxes.rows.items (row_at c.boxes.at c.in-Ok.head ∷ []) in
     record {
       inside = call.within.1;
       stays = record {
@@ -53,10 +56,13 @@ boxes-preserved g c =
         later = omega (arith, call.stays.later, before.stays.later);
       };
       count = call.count ∙ before.count;
-      fill = subst (FillSource (c.boxes.at + c.in-Ok.head.length) 0) (sym more) (fill_more c.boxes.at 0 c.boxes.rows.items (row_at c.boxes.at c.in-Ok.head) before.fill refl call.within.2 call.within.0);
+      fill =
+          subst (FillSource (c.boxes.at + c.in-Ok.head.length) 0) (sym more)
+          (fill_more c.boxes.at 0 c.boxes.rows.items (row_at c.boxes.at c.in-Ok.head) before.fill refl call.within.2 call.within.0);
       few = omega (arith, ap length more, one, few);
       walked = λ file known.
-          let len : length file ≡ c.args.size = g.met.S.Source.known_len c.args.source.now file known ∙ sym c.requires.size in
+          let len : length file ≡ c.args.size =
+          g.met.S.Source.known_len c.args.source.now file known ∙ sym c.requires.size in
           let bytes = are_bytes file (g.met.S.Source.known_bytes c.args.source.now file known) in
           subst (Walks file (c.boxes.at + c.in-Ok.head.length)) (sym more)
           (walks_more file c.boxes.at c.boxes.rows.items c.in-Ok.head (before.walked file known) bytes
@@ -68,7 +74,9 @@ boxes-preserved g c =
 pub returns-clause-walked : goal.returns-clause-walked
 returns-clause-walked g c file known =
     let len : length file ≡ c.args.size = g.met.S.Source.known_len c.args.source.now file known ∙ sym c.requires.size in
-    walks_end file c.boxes.at c.boxes.rows.items (c.boxes.invariant.walked file known) (omega (arith, len, c.boxes-test.false)) (omega (arith, len, c.requires.bounded)) (c.requires.begins file known) c.boxes.invariant.few
+    walks_end file c.boxes.at c.boxes.rows.items (c.boxes.invariant.walked file known)
+    (omega (arith, len, c.boxes-test.false)) (omega (arith, len, c.requires.bounded)) (c.requires.begins file known)
+    c.boxes.invariant.few
 
 -- so many boxes have 8 bytes each, and a byte follows
 pub returns-then-len-ge-MAX_ROOT_BOXES-clause-reads : goal.returns-then-len-ge-MAX_ROOT_BOXES-clause-reads

@@ -24,4 +24,5 @@ returns c = λ size fill.
     let rows = c.as_slice-rows.result.now in
     let some : 0 < length rows = grind (arith, c.if-is_empty.ensures, c.if-is_empty.false, c.is_empty.ensures) in
     let last : length rows - 1 + 1 ≡ length rows = omega (arith, some) in
-    last_ends size 0 (length rows - 1) rows no_row last (subst (λ (rs : List RootBox). FillSource size 0 rs) (sym c.as_slice-rows.ensures.boxes) fill)
+    last_ends size 0 (length rows - 1) rows no_row last
+    (subst (λ (rs : List RootBox). FillSource size 0 rs) (sym c.as_slice-rows.ensures.boxes) fill)

@@ -11,7 +11,8 @@ pub returns-in_err-put : goal.returns-in_err-put
 returns-in_err-put g c =
     let total = box_split c.header_of.result c.args.store.now c.header_of.ensures in
     let p = err_from_is_err_and c.from_residual.result c.from_residual.ensures.1 in
-    same g.K.Sink.written g.K.Sink.spare g.K.Sink.finished g.K.Sink.faults _ _ _ _ _ _ total (sym p.1) (stops g.K.Sink.written g.K.Sink.spare g.K.Sink.finished g.K.Sink.faults c.header_of.result (c2pa_user_type ++ (before_store ++ c.args.store.now)) _ _ _ _ c.in_err-put.ensures)
+    same g.K.Sink.written g.K.Sink.spare g.K.Sink.finished g.K.Sink.faults _ _ _ _ _ _ total (sym p.1)
+    (stops g.K.Sink.written g.K.Sink.spare g.K.Sink.finished g.K.Sink.faults c.header_of.result (c2pa_user_type ++ (before_store ++ c.args.store.now)) _ _ _ _ c.in_err-put.ensures)
 
 -- the user type fails
 pub returns-in_err-put-2 : goal.returns-in_err-put-2

@@ -5,9 +5,10 @@ use Rattle.std.specs.declared.option.Option.{Option}
 use Rattle.c2_base.specs.declared.values.Range.{Range}
 use Rattle.c2_spec.specs.Bmff.Hash.{Exclusion, in_subset}
 use Rattle.c2_bmff_excluded.specs.Marks.{excludes_row}
-use Rattle.c2_bmff_rows.proofs.Lists.{any_append, or_join}
+use Rattle.c2_bmff_rows.proofs.Lists.{any_append}
 use Rattle.c2_bmff_excluded.proofs.OrderLemmas.{united_same}
 use Rattle.c2_bmff_excluded.proofs.entries.add_exclusion.Goals as goal
+use Rattle.c2_lemmas.proofs.Bools.{or_join}
 
 -- the last group with the parts of one more excludes what both do
 pub returns-then-is_alike : goal.returns-then-is_alike

@@ -14,7 +14,9 @@ use Rattle.c2_bmff_excluded.proofs.entries.ask_of.Goals as goal
 pub returns : goal.returns
 returns c =
     let old : Option (List Range) = option_map (λ parts. parts.items) c.group.inside.parts in
-    let first : Exclusion = record { path = c.first.inside.path; length = c.first.inside.length; tests = c.first.inside.tests; subset = old } in
+    let first : Exclusion =
+    record
+    { path = c.first.inside.path; length = c.first.inside.length; tests = c.first.inside.tests; subset = old } in
     let tests : List ByteTest = asked c.in_ok-tests.tests in
     let subset : Option (List Range) = option_map (λ parts. parts.items) c.in_ok-parts.parts in
     let ask : Exclusion = record { path = []; length = first.length; tests = tests; subset = subset } in

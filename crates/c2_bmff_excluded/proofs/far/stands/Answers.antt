@@ -15,9 +15,16 @@ returns-then-not-is_same_at-clause-stands g c file known =
     let n = c.min-count.result in
     let w = c.in_ok-last.last in
     let rest : List ℕ = c.pieces.rest.now in
-    let split = stands_split file c.pieces.at rest n (omega (arith, c.min-count.ensures)) (omega (arith, len, c.requires.inside, c.requires.end, before.inside)) in
-    let piece = window_piece file c.window_at.new.bytes w c.pieces.at (c.pieces.at - w.start) n (call.window file (before.stays.same_bytes ∙ known)) (omega (arith, call.there.0)) (omega (arith, call.there.0, call.there.1, c.min-count.ensures)) in
-    let front : bytes_eq (take n (drop c.pieces.at file)) (take n rest) ≡ false = ap (λ (xs : List ℕ). bytes_eq xs (take n rest)) (sym piece) ∙ sym c.is_same_at.ensures ∙ c.if-not-is_same_at.true in
+    let split =
+    stands_split file c.pieces.at rest n (omega (arith, c.min-count.ensures))
+    (omega (arith, len, c.requires.inside, c.requires.end, before.inside)) in
+    let piece =
+    window_piece file c.window_at.new.bytes w c.pieces.at (c.pieces.at - w.start) n
+    (call.window file (before.stays.same_bytes ∙ known)) (omega (arith, call.there.0))
+    (omega (arith, call.there.0, call.there.1, c.min-count.ensures)) in
+    let front : bytes_eq (take n (drop c.pieces.at file)) (take n rest) ≡ false =
+    ap (λ (xs : List ℕ). bytes_eq xs (take n rest)) (sym piece) ∙ sym c.is_same_at.ensures
+    ∙ c.if-not-is_same_at.true in
     sym (before.same file known ∙ split ∙ ap (λ b. b && stands_at file (c.pieces.at + n) (drop n rest)) front)
 
 -- where a piece is the same, the value stands there just when what is left of it stands after it
@@ -28,16 +35,27 @@ pieces-preserved g c =
     let n = c.min-count.result in
     let w = c.in_ok-last.last in
     let rest : List ℕ = c.pieces.rest.now in
-    let tail : take (length rest - n) (drop n rest) ≡ drop n rest = take_all (length rest - n) (drop n rest) (omega (arith, length-drop n rest)) in
+    let tail : take (length rest - n) (drop n rest) ≡ drop n rest =
+    take_all (length rest - n) (drop n rest) (omega (arith, length-drop n rest)) in
     record {
       inside = omega (arith, ap length tail, length-drop n rest, c.min-count.ensures, before.inside);
-      stays = record { same_len = call.stays.same_len ∙ before.stays.same_len; same_bytes = call.stays.same_bytes ∙ before.stays.same_bytes; later = omega (arith, call.stays.later, before.stays.later) };
+      stays =
+          record
+          { same_len = call.stays.same_len ∙ before.stays.same_len; same_bytes = call.stays.same_bytes ∙ before.stays.same_bytes; later = omega (arith, call.stays.later, before.stays.later) };
       count = call.cause.ok ∙ before.count;
       same = λ file known.
-          let len : length file ≡ g.S.Source.len c.args.source.now = g.met.S.Source.known_len c.args.source.now file known in
-          let split = stands_split file c.pieces.at rest n (omega (arith, c.min-count.ensures)) (omega (arith, len, c.requires.inside, c.requires.end, before.inside)) in
-          let piece = window_piece file c.window_at.new.bytes w c.pieces.at (c.pieces.at - w.start) n (call.window file (before.stays.same_bytes ∙ known)) (omega (arith, call.there.0)) (omega (arith, call.there.0, call.there.1, c.min-count.ensures)) in
-          let front : bytes_eq (take n (drop c.pieces.at file)) (take n rest) ≡ true = ap (λ (xs : List ℕ). bytes_eq xs (take n rest)) (sym piece) ∙ sym c.is_same_at.ensures ∙ c.if-not-is_same_at.false in
+          let len : length file ≡ g.S.Source.len c.args.source.now =
+          g.met.S.Source.known_len c.args.source.now file known in
+          let split =
+          stands_split file c.pieces.at rest n (omega (arith, c.min-count.ensures))
+          (omega (arith, len, c.requires.inside, c.requires.end, before.inside)) in
+          let piece =
+          window_piece file c.window_at.new.bytes w c.pieces.at (c.pieces.at - w.start) n
+          (call.window file (before.stays.same_bytes ∙ known)) (omega (arith, call.there.0))
+          (omega (arith, call.there.0, call.there.1, c.min-count.ensures)) in
+          let front : bytes_eq (take n (drop c.pieces.at file)) (take n rest) ≡ true =
+          ap (λ (xs : List ℕ). bytes_eq xs (take n rest)) (sym piece) ∙ sym c.is_same_at.ensures
+          ∙ c.if-not-is_same_at.false in
           before.same file known ∙ split ∙ ap (λ b. b && stands_at file (c.pieces.at + n) (drop n rest)) front ∙ ap (stands_at file (c.pieces.at + n)) (sym tail);
       few = call.few;
       window = λ file known. call.window file (before.stays.same_bytes ∙ known);

@@ -3,12 +3,13 @@ use Rattle.std.proofs.lemmas.List.{get_or_default}
 use Rattle.std.proofs.lemmas.List.Elements.{All-weaker}
 use Rattle.c2_base.specs.declared.values.Range.{Range}
 use Rattle.c2_spec.specs.Cover.{holds, is_excluded}
-use Rattle.c2_bmff_rows.proofs.Lists.{any_more, or_false}
+use Rattle.c2_bmff_rows.proofs.Lists.{any_more}
 use Rattle.c2_bmff_excluded.specs.Marks.{AreApart, GrowsWithin}
 use Rattle.c2_bmff_excluded.specs.Parts.{StartsBy}
 use Rattle.c2_bmff_excluded.proofs.MarkLemmas.{no_range}
 use Rattle.c2_bmff_excluded.proofs.RangeLemmas.{any_first, grows_some, on_err}
 use Rattle.c2_bmff_excluded.proofs.marking.add_each.Goals as goal
+use Rattle.c2_lemmas.proofs.Bools.{or_false}
 
 -- before the first, the ranges are as they were
 pub loop-other-init : goal.loop-other-init
@@ -30,10 +31,13 @@ loop-other-preserved c =
           call.same i ∙ ap (λ (b : Bool). b || holds i (get_or c.args.others.now k no_range)) (before.same i)
           ∙ sym (any_more (holds i) c.args.others.now k no_range (is_excluded c.args.ranges.now.items i) c.loop-other-test.true);
       within = λ n old all. call.within n (before.within n old all) (all k no_range c.loop-other-test.true);
-      apart = λ rising none. call.apart (before.below rising none no_range c.loop-other-test.true) (before.apart rising none);
+      apart =
+          λ rising none. call.apart (before.below rising none no_range c.loop-other-test.true) (before.apart rising none);
       below = λ rising none d more.
-          let this : (get_or c.args.others.now k d).start ≡ (get_or c.args.others.now k no_range).start = ap (λ (r : Range). r.start) (get_or_default c.args.others.now k d no_range c.loop-other-test.true) in
-          let step : (get_or c.args.others.now k d).start ≤ (get_or c.args.others.now (k + 1) d).start = rising k (k + 1) d (omega arith) more in
+          let this : (get_or c.args.others.now k d).start ≡ (get_or c.args.others.now k no_range).start =
+          ap (λ (r : Range). r.start) (get_or_default c.args.others.now k d no_range c.loop-other-test.true) in
+          let step : (get_or c.args.others.now k d).start ≤ (get_or c.args.others.now (k + 1) d).start =
+          rising k (k + 1) d (omega arith) more in
           call.below (get_or c.args.others.now (k + 1) d).start (omega (arith, this, step))
           (All-weaker (StartsBy (get_or c.args.others.now k d).start) (StartsBy (get_or c.args.others.now (k + 1) d).start) (λ x le. omega (arith, le, step)) c.loop-other.ranges.items (before.below rising none d c.loop-other-test.true));
     }

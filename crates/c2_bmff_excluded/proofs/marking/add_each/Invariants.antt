@@ -10,8 +10,11 @@ use Rattle.c2_bmff_excluded.proofs.marking.add_each.Given as goal
 -- no later than any that follows
 abbrev pub invariant-loop-other : goal.invariant-loop-other
 invariant-loop-other l = record {
-  same : (i : ℕ) → is_excluded l.ranges.items i ≡ (is_excluded l.initial.ranges.items i || is_excluded (take l.other-index l.others) i);
-  within : (n : ℕ) → All (IsRangeWithin n) l.initial.ranges.items → All (IsRangeWithin n) l.others → All (IsRangeWithin n) l.ranges.items;
+  same : (i : ℕ)
+      → is_excluded l.ranges.items i ≡ (is_excluded l.initial.ranges.items i || is_excluded (take l.other-index l.others) i);
+  within : (n : ℕ) → All (IsRangeWithin n) l.initial.ranges.items → All (IsRangeWithin n) l.others
+      → All (IsRangeWithin n) l.ranges.items;
   apart : AreRising l.others → l.initial.ranges.items ≡ [] → AreApart 0 l.ranges.items;
-  below : AreRising l.others → l.initial.ranges.items ≡ [] → (d : Range) → l.other-index < length l.others → All (StartsBy (get_or l.others l.other-index d).start) l.ranges.items;
+  below : AreRising l.others → l.initial.ranges.items ≡ [] → (d : Range) → l.other-index < length l.others
+      → All (StartsBy (get_or l.others l.other-index d).start) l.ranges.items;
 }

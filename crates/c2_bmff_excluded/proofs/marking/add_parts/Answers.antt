@@ -27,11 +27,13 @@ returns-then-ends_row-clause-same c i =
     let before = c.loop-part.invariant in
     let k = c.loop-part.part-index in
     c.in_ok-add_new.ensures.same i ∙ ap₂ (λ (a b : Bool). a || b) (before.same i) (c.part_in.ensures.holds i)
-    ∙ rest_adds_nothing i c.args.row c.args.parts.now k no_range (is_excluded c.args.ranges.now.items i) c.requires.rising c.loop-part-test.true (λ later from. c.ends_row.ensures c.if-ends_row.true i later from)
+    ∙ rest_adds_nothing i c.args.row c.args.parts.now k no_range (is_excluded c.args.ranges.now.items i)
+    c.requires.rising c.loop-part-test.true (λ later from. c.ends_row.ensures c.if-ends_row.true i later from)
 
 -- and no range ends after the old ones and the box do
 pub returns-then-ends_row-clause-within : goal.returns-then-ends_row-clause-within
-returns-then-ends_row-clause-within c = λ n old fits. c.in_ok-add_new.ensures.within n (c.loop-part.invariant.within n old fits) (omega (arith, c.part_in.ensures.within, fits))
+returns-then-ends_row-clause-within c =
+    λ n old fits. c.in_ok-add_new.ensures.within n (c.loop-part.invariant.within n old fits) (omega (arith, c.part_in.ensures.within, fits))
 
 -- without memory for a part, those before it were added, all inside the box
 pub returns-in_err-add_new-clause-some : goal.returns-in_err-add_new-clause-some

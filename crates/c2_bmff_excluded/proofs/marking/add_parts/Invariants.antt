@@ -8,6 +8,8 @@ use Rattle.c2_bmff_excluded.proofs.marking.add_parts.Given as goal
 -- the ranges hold what they did and the parts so far, and none ends after the old ones and the box do
 abbrev pub invariant-loop-part : goal.invariant-loop-part
 invariant-loop-part l = record {
-  same : (i : ℕ) → is_excluded l.ranges.items i ≡ (is_excluded l.initial.ranges.items i || list_any (in_row_part i l.row) (take l.part-index l.parts));
-  within : (n : ℕ) → All (IsRangeWithin n) l.initial.ranges.items → l.row.start + l.row.length ≤ n → All (IsRangeWithin n) l.ranges.items;
+  same : (i : ℕ)
+      → is_excluded l.ranges.items i ≡ (is_excluded l.initial.ranges.items i || list_any (in_row_part i l.row) (take l.part-index l.parts));
+  within : (n : ℕ) → All (IsRangeWithin n) l.initial.ranges.items → l.row.start + l.row.length ≤ n
+      → All (IsRangeWithin n) l.ranges.items;
 }

@@ -12,7 +12,8 @@ returns-then-range-last-clause-apart c = λ rising apart.
     let last = c.in-Some.last in
     let range = c.args.range in
     let old : AreApart 0 (c.pop.new.self.items ++ last ∷ []) = subst (AreApart 0) c.in-Some.ensures.items apart in
-    let from : last.start ≤ range.start = (All-pop (StartsBy range.start) c.args.ranges.now.items c.pop.new.self.items (Some last) c.in-Some.ensures.items rising).1 in
+    let from : last.start ≤ range.start =
+    (All-pop (StartsBy range.start) c.args.ranges.now.items c.pop.new.self.items (Some last) c.in-Some.ensures.items rising).1 in
     let later : last.start + last.length < range.start = elim c.then-range-last.branch [
       | then-range-last-via-then-range-last w ↦ absurd (omega (arith, from, w.if-range-last.true))
       | then-range-last-via-else-range-last+then-range-last-2 w ↦ omega (arith, from, w.if-range-last-2.true)

@@ -34,7 +34,8 @@ returns-in_err-add_each-clause-some c =
     let same : (i : ℕ) → is_excluded c.as_slice.result.now i ≡ is_excluded c.args.others.now.items i = λ i.
     ap (λ (rs : List Range). is_excluded rs i) c.as_slice.ensures.value
     ∙ sym (list_any-IsPermutation (holds i) c.args.others.now.items c.sort_unstable_by_key.new.self.items c.sort_unstable_by_key.ensures.permutation) in
-    on_err c.from_residual.result (grows_as (is_excluded c.as_slice.result.now) (is_excluded c.args.others.now.items) c.args.ranges.now.items c.add_each.new.ranges.items same c.in_err-add_each.ensures.some)
+    on_err c.from_residual.result
+    (grows_as (is_excluded c.as_slice.result.now) (is_excluded c.args.others.now.items) c.args.ranges.now.items c.add_each.new.ranges.items same c.in_err-add_each.ensures.some)
 
 -- of which none ends later
 pub returns-in_err-add_each-clause-within : goal.returns-in_err-add_each-clause-within

@@ -13,8 +13,12 @@ returns-clause-same c i =
 
 -- without memory for all, they are only sorted
 pub returns-in_err-add_sorted-clause-same : goal.returns-in_err-add_sorted-clause-same
-returns-in_err-add_sorted-clause-same c i = sym (list_any-IsPermutation (holds i) c.args.ranges.now.items c.add_sorted.new.others.items c.in_err-add_sorted.ensures.sorted)
+returns-in_err-add_sorted-clause-same c i =
+    sym
+    (list_any-IsPermutation (holds i) c.args.ranges.now.items c.add_sorted.new.others.items c.in_err-add_sorted.ensures.sorted)
 
 -- and end where they did
 pub returns-in_err-add_sorted-clause-within : goal.returns-in_err-add_sorted-clause-within
-returns-in_err-add_sorted-clause-within c n all = All-permutation (IsRangeWithin n) c.args.ranges.now.items c.add_sorted.new.others.items c.in_err-add_sorted.ensures.sorted all
+returns-in_err-add_sorted-clause-within c n all =
+    All-permutation (IsRangeWithin n) c.args.ranges.now.items c.add_sorted.new.others.items
+    c.in_err-add_sorted.ensures.sorted all

@@ -16,4 +16,5 @@ returns c file is =
     let piece : take (length v) (drop off front) ≡ take (length v) (drop (row.start + off) file) =
     ap (λ (xs : List ℕ). take (length v) (drop off xs)) is ∙ piece_of (length front) off (length v) (drop row.start file) c.in-Some.ensures.inside ∙ ap (take (length v)) (drop-drop off row.start file) in
     c.in-Some.ensures.same ∙ ap (λ (xs : List ℕ). bytes_eq xs v) piece
-    ∙ sym (ap (λ (b : Bool). b && stands_at file (row.start + off) v) (le-leb (off + length v) row.length (omega (arith, c.if-value-row.false, c.if-offset-row.false))))
+    ∙ sym
+    (ap (λ (b : Bool). b && stands_at file (row.start + off) v) (le-leb (off + length v) row.length (omega (arith, c.if-value-row.false, c.if-offset-row.false))))

@@ -14,6 +14,8 @@ returns-clause-rising c old =
 -- and so no later than the part that was added
 pub returns-clause-below : goal.returns-clause-below
 returns-clause-below c n from =
-    let old = All-pop (StartsBy c.args.part.start) c.args.parts.now.items c.pop.new.self.items (Some c.in-Some.last) c.in-Some.ensures.items c.requires in
+    let old =
+    All-pop (StartsBy c.args.part.start) c.args.parts.now.items c.pop.new.self.items (Some c.in-Some.last)
+    c.in-Some.ensures.items c.requires in
     subst (All (StartsBy n)) (sym c.in_ok-push-4.ensures.items)
     (All-push (StartsBy n) c.pop.new.self.items c.in-Some-joined.both (All-weaker (StartsBy c.args.part.start) (StartsBy n) (λ x le. omega (arith, le, from)) c.pop.new.self.items old.0) (omega (arith, old.1, c.in-Some-joined.ensures.start, from)))

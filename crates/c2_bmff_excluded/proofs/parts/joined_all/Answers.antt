@@ -13,9 +13,12 @@ loop-part-preserved c =
     let call = c.in_ok-add_part.ensures in
     let k = c.loop-part.part-index in
     record {
-      same = λ i. call.same i ∙ ap (λ (b : Bool). b || in_part i (get_or c.args.parts.now k no_range)) (before.same i) ∙ sym (list_any_more (in_part i) c.args.parts.now k no_range c.loop-part-test.true);
+      same =
+          λ i. call.same i ∙ ap (λ (b : Bool). b || in_part i (get_or c.args.parts.now k no_range)) (before.same i)
+          ∙ sym (list_any_more (in_part i) c.args.parts.now k no_range c.loop-part-test.true);
       rising = call.rising before.rising;
       below = λ d more.
-          let this : (get_or c.args.parts.now k d).start ≡ (get_or c.args.parts.now k no_range).start = ap (λ (p : Range). p.start) (get_or_default c.args.parts.now k d no_range c.loop-part-test.true) in
+          let this : (get_or c.args.parts.now k d).start ≡ (get_or c.args.parts.now k no_range).start =
+          ap (λ (p : Range). p.start) (get_or_default c.args.parts.now k d no_range c.loop-part-test.true) in
           call.below (get_or c.args.parts.now (k + 1) d).start (omega (arith, this, c.requires k (k + 1) d (omega arith) more));
     }

@@ -9,5 +9,6 @@ abbrev pub invariant-loop-part : goal.invariant-loop-part
 invariant-loop-part l = record {
   same : HoldSame l.done.items (take l.part-index l.parts);
   rising : AreRising l.done.items;
-  below : (d : Range) → l.part-index < length l.parts → All (StartsBy (get_or l.parts l.part-index d).start) l.done.items;
+  below : (d : Range) → l.part-index < length l.parts
+      → All (StartsBy (get_or l.parts l.part-index d).start) l.done.items;
 }

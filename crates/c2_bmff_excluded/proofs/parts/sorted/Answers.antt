@@ -5,4 +5,6 @@ use Rattle.c2_bmff_excluded.proofs.parts.sorted.Goals as goal
 
 -- the parts are sorted by their starts
 pub returns-clause-rising : goal.returns-clause-rising
-returns-clause-rising c = IsNonDecreasingBy-from_sort_by_key (λ (r : Range). r.start) _ c.sort_unstable_by_key.ensures.sorted (λ a r q k. search rules)
+returns-clause-rising c =
+    IsNonDecreasingBy-from_sort_by_key (λ (r : Range). r.start) _ c.sort_unstable_by_key.ensures.sorted
+    (λ a r q k. search rules)

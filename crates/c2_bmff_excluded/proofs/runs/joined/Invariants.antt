@@ -11,5 +11,6 @@ abbrev pub invariant-loop-key : goal.invariant-loop-key
 invariant-loop-key l = record {
   last : IsLastWithin (length l.bytes.items) l.last;
   within : All (IsRunWithin (length l.bytes.items)) l.runs.items;
-  same : (file : List ℕ) (r : RootBox) → (nat_le l.least r.length && holds_last file r l.bytes.items l.runs.items l.last) ≡ list_all (holds_test file r) (map (key_test l.tests) (take l.key-index l.keys));
+  same : (file : List ℕ) (r : RootBox)
+      → (nat_le l.least r.length && holds_last file r l.bytes.items l.runs.items l.last) ≡ list_all (holds_test file r) (map (key_test l.tests) (take l.key-index l.keys));
 }

@@ -12,10 +12,18 @@ loop-index-preserved c =
     let tests = c.args.tests.now in
     let k = c.loop-index.index in
     record {
-      same = keys_more tests c.loop-index.keys.items c.push.new.self.items k _ c.in_ok-push.ensures.items c.loop-index-test.true (ap (λ (p : ℕ × List ℕ). p.0) (get_or_default tests k c.index-tests-index.result (0, []) c.loop-index-test.true)) before.same;
-      within = keys_within (length tests) c.loop-index.keys.items c.push.new.self.items k _ c.in_ok-push.ensures.items c.loop-index-test.true before.within;
+      same =
+          keys_more tests c.loop-index.keys.items c.push.new.self.items k _ c.in_ok-push.ensures.items
+          c.loop-index-test.true
+          (ap (λ (p : ℕ × List ℕ). p.0) (get_or_default tests k c.index-tests-index.result (0, []) c.loop-index-test.true))
+          before.same;
+      within =
+          keys_within (length tests) c.loop-index.keys.items c.push.new.self.items k _ c.in_ok-push.ensures.items
+          c.loop-index-test.true before.within;
     }
 
 -- after the last, they are those of all
 pub returns-clause-same : goal.returns-clause-same
-returns-clause-same c = c.loop-index.invariant.same ∙ ap (map byte_test) (take_all c.loop-index.index c.args.tests.now c.loop-index-test.false)
+returns-clause-same c =
+    c.loop-index.invariant.same
+    ∙ ap (map byte_test) (take_all c.loop-index.index c.args.tests.now c.loop-index-test.false)

@@ -8,4 +8,7 @@ use Rattle.c2_bmff_excluded.proofs.runs.runs_of.Goals as goal
 -- the runs ask what the keys' byte tests do
 pub returns-clause-same : goal.returns-clause-same
 returns-clause-same c file r =
-    c.in_ok-runs.ensures.same file r ∙ ap (λ (ks : List Key). list_all (holds_test file r) (map (key_test c.args.tests.now) ks)) c.as_slice.ensures.value ∙ c.in_ok-keys.ensures.same file r
+    c.in_ok-runs.ensures.same file r
+    ∙ ap (λ (ks : List Key). list_all (holds_test file r) (map (key_test c.args.tests.now) ks))
+    c.as_slice.ensures.value
+    ∙ c.in_ok-keys.ensures.same file r

@@ -8,4 +8,5 @@ use Rattle.c2_bmff_paths.proofs.paths.enters.Goals as goal
 -- a path enters a box just when its type is one of those listed
 pub returns : goal.returns
 returns c =
-    any_from_yields_List (bytes_eq c.args.kind) _ _ _ c.any.ensures.ran (YieldsList-from_slice entered_kinds (cc)) (λ x b q k. search (rules, tests))
+    any_from_yields_List (bytes_eq c.args.kind) _ _ _ c.any.ensures.ran (YieldsList-from_slice entered_kinds (cc))
+    (λ x b q k. search (rules, tests))

@@ -19,11 +19,16 @@ pub returns-in-Err-clause-reads : goal.returns-in-Err-clause-reads
 returns-in-Err-clause-reads g c = record {
   stays = c.in-Err.ensures.reads.stays;
   quiet = tt;
-  cause = subst (λ (e : BuildError). IsAskCause (g.A.Source.faults c.args.media.now) (g.A.Source.faults c.check.new.source) e) (sym c.fault.ensures) (fault_cause _ _ c.in-Err.error c.in-Err.ensures.reads.cause);
+  cause =
+      subst
+      (λ (e : BuildError). IsAskCause (g.A.Source.faults c.args.media.now) (g.A.Source.faults c.check.new.source) e)
+      (sym c.fault.ensures) (fault_cause _ _ c.in-Err.error c.in-Err.ensures.reads.cause);
 }
 
 pub returns-in-Err-clause-panel : goal.returns-in-Err-clause-panel
-returns-in-Err-clause-panel g c = hears_fault c.args.judges.now c.check.new.judges c.in-Err.error c.fault.result c.fault.ensures c.in-Err.ensures.panel
+returns-in-Err-clause-panel g c =
+    hears_fault c.args.judges.now c.check.new.judges c.in-Err.error c.fault.result c.fault.ensures
+    c.in-Err.ensures.panel
 
 -- no rule fails
 pub returns-in-Valid-clause-checked : goal.returns-in-Valid-clause-checked
@@ -32,14 +37,17 @@ returns-in-Valid-clause-checked g c = λ file known from.
     let hash = g.H.Hashing.digest_of in
     let store = c.args.store.now in
     let valid = checked.Valid c.in-Valid.field-0 c.in-Valid.field-1 in
-    let over : IsCheckedOver hash said store file valid = subst (IsCheckedOver hash said store file) c.in-Valid.is (c.in-Ok.ensures.answer file known) in
+    let over : IsCheckedOver hash said store file valid =
+    subst (IsCheckedOver hash said store file) c.in-Valid.is (c.in-Ok.ensures.answer file known) in
     (c.in-Valid.field-0, (c.a_store_answers_for_its_file.ensures.answer hash said file store valid (g.met.A.Source.known_bytes c.args.media.now file known) from over).is)
 
 pub returns-in-Valid-clause-reads : goal.returns-in-Valid-clause-reads
-returns-in-Valid-clause-reads g c = record { stays = c.in-Ok.ensures.reads.stays; quiet = c.in-Ok.ensures.reads.quiet; cause = tt }
+returns-in-Valid-clause-reads g c =
+    record { stays = c.in-Ok.ensures.reads.stays; quiet = c.in-Ok.ensures.reads.quiet; cause = tt }
 
 pub returns-in-Valid-clause-panel : goal.returns-in-Valid-clause-panel
-returns-in-Valid-clause-panel g c = hears_valid c.args.judges.now c.check.new.judges c.in-Ok.checked _ tt c.in-Ok.ensures.panel
+returns-in-Valid-clause-panel g c =
+    hears_valid c.args.judges.now c.check.new.judges c.in-Ok.checked _ tt c.in-Ok.ensures.panel
 
 -- one does
 pub returns-clause-refused : goal.returns-clause-refused
@@ -48,11 +56,13 @@ returns-clause-refused g c = λ file known from.
     let hash = g.H.Hashing.digest_of in
     let store = c.args.store.now in
     let failing = checked.Failing c.in-Failing.failing in
-    let over : IsCheckedOver hash said store file failing = subst (IsCheckedOver hash said store file) c.in-Failing.is (c.in-Ok.ensures.answer file known) in
+    let over : IsCheckedOver hash said store file failing =
+    subst (IsCheckedOver hash said store file) c.in-Failing.is (c.in-Ok.ensures.answer file known) in
     (c.in-Failing.failing, (c.a_store_answers_for_its_file.ensures.answer hash said file store failing (g.met.A.Source.known_bytes c.args.media.now file known) from over).is, refl)
 
 pub returns-clause-reads : goal.returns-clause-reads
-returns-clause-reads g c = record { stays = c.in-Ok.ensures.reads.stays; quiet = tt; cause = c.in-Ok.ensures.reads.quiet }
+returns-clause-reads g c =
+    record { stays = c.in-Ok.ensures.reads.stays; quiet = tt; cause = c.in-Ok.ensures.reads.quiet }
 
 pub returns-clause-panel : goal.returns-clause-panel
 returns-clause-panel g c = hears_valid c.args.judges.now c.check.new.judges c.in-Ok.checked _ tt c.in-Ok.ensures.panel

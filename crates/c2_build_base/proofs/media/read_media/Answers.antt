@@ -7,10 +7,11 @@ use Rattle.c2_build_base.proofs.media.read_media.Goals as goal
 pub returns-in_default-clause-stage : goal.returns-in_default-clause-stage
 returns-in_default-clause-stage c = λ bytes found.
     let stage = absent_stage bytes (found_none bytes c.args.file.now c.in_default.is found) in
-    (fresh, stage, record { stage = stage; container = found.container; older = refl; clears = refl })
+    (fresh, stage, record { stage = stage; found = found; older = refl; clears = c.cleared_of.ensures.fresh c.in_default.is bytes })
 
 pub returns-in_default-clause-inside : goal.returns-in_default-clause-inside
-returns-in_default-clause-inside c = λ len inside. record { inside = inside; boxes = tt }
+returns-in_default-clause-inside c =
+    λ len within. record { within = within; clears = c.cleared_of.ensures.is; boxes = tt }
 
 -- one with a store of manifests
 pub with_store-requires : goal.with_store-requires
@@ -24,7 +25,8 @@ returns-in-Here-clause-stage c = λ bytes found.
     (stored f.start f.length c.in-Here.tree, kind.stage, kind)
 
 pub returns-in-Here-clause-inside : goal.returns-in-Here-clause-inside
-returns-in-Here-clause-inside c = λ len inside. c.with_store.ensures.inside len inside (boxes_of c.in-Some.found c.in-Ok.read _ _ c.in-Here.is c.in-Ok.ensures)
+returns-in-Here-clause-inside c =
+    λ len within. c.with_store.ensures.inside len within (boxes_of c.in-Some.found c.in-Ok.read _ _ c.in-Here.is c.in-Ok.ensures)
 
 -- a refused store
 pub returns-in-Refused-clause-stage : goal.returns-in-Refused-clause-stage

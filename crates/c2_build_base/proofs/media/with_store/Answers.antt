@@ -7,8 +7,10 @@ pub returns-clause-kind : goal.returns-clause-kind
 returns-clause-kind c = λ bytes found store.
     let f = c.args.found.now in
     let located = found_at bytes c.args.file.now f c.requires found in
-    record { stage = stored_stage bytes f _ store located; container = found.container; older = refl; clears = c.cleared_of.ensures bytes f c.requires found.container located }
+    record
+    { stage = stored_stage bytes f _ store located; found = found; older = refl; clears = c.cleared_of.ensures.left bytes f c.requires found }
 
--- its root boxes are those of the file
+-- what was found lies in the file
 pub returns-clause-inside : goal.returns-clause-inside
-returns-clause-inside c = λ len inside boxes. record { inside = inside; boxes = boxes }
+returns-clause-inside c =
+    λ len within boxes. record { within = within; clears = c.cleared_of.ensures.is; boxes = boxes }

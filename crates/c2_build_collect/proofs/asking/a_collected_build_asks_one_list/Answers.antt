@@ -1,28 +1,8 @@
-use Rattle.c2_build_collect.proofs.Questioned.{one_embed_asks, one_plan_asks}
+use Rattle.c2_build_collect.proofs.TheLaws.{a_collected_build_asks_one_list_embedding, a_collected_build_asks_one_list_plan}
 use Rattle.c2_build_collect.proofs.asking.a_collected_build_asks_one_list.Goals as goal
 
--- each stage comes to one thing, and a check asks one list: so for a plan
 pub returns-clause-plan : goal.returns-clause-plan
-returns-clause-plan c = one_plan_asks c.one_opening.ensures.file c.one_check.ensures.asks (record {
-  definition = c.each_definition_is_read_one_way.ensures.one;
-  item = c.one_item.ensures;
-  refused = c.each_message_is_accepted_or_refused_for_one_test.ensures;
-  fills = c.a_message_fills_its_reserve_or_needs_more.ensures;
-  reading = c.one_reading.ensures.store;
-  left = c.what_is_left_is_one.ensures;
-  place = c.a_place_is_one.ensures;
-  content = c.what_is_collected_is_one.ensures.once;
-})
+returns-clause-plan c = a_collected_build_asks_one_list_plan
 
--- and for a new file
 pub returns-clause-embedding : goal.returns-clause-embedding
-returns-clause-embedding c = one_embed_asks c.one_opening.ensures.file c.one_check.ensures.asks (record {
-  definition = c.each_definition_is_read_one_way.ensures.one;
-  item = c.one_item.ensures;
-  refused = c.each_message_is_accepted_or_refused_for_one_test.ensures;
-  fills = c.a_message_fills_its_reserve_or_needs_more.ensures;
-  reading = c.one_reading.ensures.store;
-  left = c.what_is_left_is_one.ensures;
-  place = c.a_place_is_one.ensures;
-  content = c.what_is_collected_is_one.ensures.once;
-})
+returns-clause-embedding c = a_collected_build_asks_one_list_embedding

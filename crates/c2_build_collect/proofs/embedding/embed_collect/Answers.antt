@@ -1,16 +1,16 @@
-use Rattle.std.proofs.Common.{inl, map, refl, subst, sym, ℕ, ◌∙◌}
+use Rattle.c2_opening.proofs.TheLaws.{one_opening_file}
+use Rattle.c2_collect_spec.proofs.TheLaws.{a_collected_build_comes_to_one_thing_made, a_made_collected_file_meets_the_rules}
+use Rattle.std.proofs.Common.{map, refl, sym, ◌∙◌}
 use Rattle.std.specs.Prelude.{Err, Ok}
-use Rattle.c2_base.specs.Causes.{Rose}
 use Rattle.c2_spec.specs.Judges.Panel.{panel_says}
-use Rattle.c2_calls_spec.proofs.SinkLemmas.{writes_nothing}
-use Rattle.c2_calls_spec.proofs.SourceLemmas.{reads_next, reads_then}
 use Rattle.c2_collect_spec.specs.Outcomes.{IsCollectMade}
 use Rattle.c2_build_in_place.specs.Writings.{ready_file}
-use Rattle.c2_build_in_place.proofs.Endings.{all_written, copy_beside, copy_leaves, copy_sink, copy_source, copy_unjudged, unwritten}
-use Rattle.c2_build_refusals.proofs.Doing.{leaves_kind}
+use Rattle.c2_build_in_place.proofs.Endings.{all_written, copy_unjudged, unwritten}
+use Rattle.c2_build_in_place.proofs.Leaving.{sink_broken, sink_copied, sink_unwritten}
 use Rattle.c2_build_refusals.proofs.Judged.{hears_behind, hears_failed}
 use Rattle.c2_build_collect.specs.Answers.{Writes, embed_effects, prepare_effects}
-use Rattle.c2_build_collect.proofs.Causes.{prepare_sink, prepare_writes}
+use Rattle.c2_build_collect.proofs.Causes.{prepares}
+use Rattle.c2_build_collect.proofs.Leaving.{pair_broken, pair_copied, pair_failed}
 use Rattle.c2_build_collect.proofs.Ended.{broken_off, range_is, told_of_file}
 use Rattle.c2_build_collect.proofs.embedding.embed_collect.Goals as goal
 
@@ -19,30 +19,23 @@ use Rattle.c2_build_collect.proofs.embedding.embed_collect.Goals as goal
 pub returns-in-Err-clause-embedded : goal.returns-in-Err-clause-embedded
 returns-in-Err-clause-embedded g c = λ file known bytes due message due' others undue. record {
   answered = c.in-Err.ensures.prepared.ready file known bytes due message due' others undue;
-  wrote = unwritten prepare_effects (λ h. h) _ g.K.Sink.written g.K.Sink.spare g.K.Sink.finished _ c.args.out.now _ _ _ c.in-Err.ensures.media.cause;
+  wrote =
+      unwritten prepare_effects (λ h. h) _ g.K.Sink.written g.K.Sink.spare g.K.Sink.finished _ c.args.out.now _ _ _
+      c.in-Err.ensures.sources.media.cause;
   meets = tt;
 }
 
-pub returns-in-Err-clause-media : goal.returns-in-Err-clause-media
-returns-in-Err-clause-media g c = record { stays = c.in-Err.ensures.media.stays; quiet = tt; cause = prepare_writes _ _ _ _ c.in-Err.ensures.media.cause }
-
-pub returns-in-Err-clause-definition : goal.returns-in-Err-clause-definition
-returns-in-Err-clause-definition g c = record { stays = c.in-Err.ensures.definition.stays; quiet = tt; cause = prepare_writes _ _ _ _ c.in-Err.ensures.definition.cause }
-
-pub returns-in-Err-clause-message : goal.returns-in-Err-clause-message
-returns-in-Err-clause-message g c = record { stays = c.in-Err.ensures.message.stays; quiet = tt; cause = prepare_writes _ _ _ _ c.in-Err.ensures.message.cause }
-
-pub returns-in-Err-clause-other : goal.returns-in-Err-clause-other
-returns-in-Err-clause-other g c = record { stays = c.in-Err.ensures.other.stays; quiet = tt; cause = prepare_writes _ _ _ _ c.in-Err.ensures.other.cause }
+pub returns-in-Err-clause-sources : goal.returns-in-Err-clause-sources
+returns-in-Err-clause-sources g c =
+    pair_failed prepare_effects embed_effects prepares _ _ _ _ c.in-Err.error c.in-Err.ensures.sources
 
 pub returns-in-Err-clause-sink : goal.returns-in-Err-clause-sink
-returns-in-Err-clause-sink g c = record {
-  writes = writes_nothing c.args.out.now (Err c.in-Err.error) (prepare_sink _ _ _ _ _ c.in-Err.ensures.media.cause);
-  ends = record { finish = refl; untouched = leaves_kind _ refl };
-}
+returns-in-Err-clause-sink g c =
+    sink_unwritten prepare_effects (λ h. h) _ _ _ c.args.out.now c.in-Err.error c.in-Err.ensures.sources.media.cause
 
 pub returns-in-Err-clause-panel : goal.returns-in-Err-clause-panel
-returns-in-Err-clause-panel g c = hears_failed c.args.judges.now c.prepare.new.judges c.in-Err.error (λ qs asks. asks) c.in-Err.ensures.panel
+returns-in-Err-clause-panel g c =
+    hears_failed c.args.judges.now c.prepare.new.judges c.in-Err.error (λ qs asks. asks) c.in-Err.ensures.panel
 
 -- ---- the file is written, and meets the rules
 
@@ -52,35 +45,30 @@ returns-in-Ok-write_file-clause-embedded g c = λ file known bytes due message d
     let hash = g.H.Hashing.digest_of in
     let ready = c.in-Ok.ready in
     let h = c.in-Ok.ensures.prepared.ready file known bytes due message due' others undue in
-    let whole = c.in-Ok-write_file.ensures.written.whole file (c.in-Ok.ensures.media.stays.same_bytes ∙ known) in
-    let told = told_of_file c.one_opening.ensures.file hash said file bytes message others h.0 _ h.1 due in
+    let whole =
+    c.in-Ok-write_file.ensures.written.whole file (c.in-Ok.ensures.sources.media.stays.same_bytes ∙ known) in
+    let told = told_of_file hash said file bytes message others h.0 _ h.1 due in
     record {
       answered = (h.0, h.1, range_is ready h.0 _ h.2 refl refl);
-      wrote = all_written g.K.Sink.written g.K.Sink.spare g.K.Sink.finished (Writes (IsCollectMade hash said file bytes message others)) (ready_file ready file) c.args.out.now c.write_file.new.out (Ok h.0, h.1, sym h.2.file) whole;
-      meets = λ b is. c.a_made_collected_file_meets_the_rules.ensures hash said file bytes message others b g.met.H.Hashing.is_digest (c.in-Ok.ensures.prepared.texts bytes told) is;
+      wrote =
+          all_written g.K.Sink.written g.K.Sink.spare g.K.Sink.finished
+          (Writes (IsCollectMade hash said file bytes message others)) (ready_file ready file) c.args.out.now
+          c.write_file.new.out (Ok h.0, h.1, sym h.2.file) whole;
+      meets =
+          λ b is. a_made_collected_file_meets_the_rules hash said file bytes message others b g.met.H.Hashing.is_digest (c.in-Ok.ensures.prepared.texts bytes told) is;
     }
 
-pub returns-in-Ok-write_file-clause-media : goal.returns-in-Ok-write_file-clause-media
-returns-in-Ok-write_file-clause-media g c =
-    reads_next _ _ _ _ _ c.args.media.now c.prepare.new.media c.write_file.new.media c.in-Ok.ready _ c.in-Ok.ensures.media (record { stays = c.in-Ok-write_file.ensures.reads.stays; quiet = c.in-Ok-write_file.ensures.reads.quiet; cause = tt })
-
-pub returns-in-Ok-write_file-clause-definition : goal.returns-in-Ok-write_file-clause-definition
-returns-in-Ok-write_file-clause-definition g c = reads_then _ _ _ _ _ c.args.definition.now c.prepare.new.definition c.in-Ok.ready _ tt c.in-Ok.ensures.definition
-
-pub returns-in-Ok-write_file-clause-message : goal.returns-in-Ok-write_file-clause-message
-returns-in-Ok-write_file-clause-message g c = reads_then _ _ _ _ _ c.args.signature.now c.prepare.new.signature c.in-Ok.ready _ tt c.in-Ok.ensures.message
-
-pub returns-in-Ok-write_file-clause-other : goal.returns-in-Ok-write_file-clause-other
-returns-in-Ok-write_file-clause-other g c = reads_then _ _ _ _ _ c.args.other.now c.prepare.new.other c.in-Ok.ready _ tt c.in-Ok.ensures.other
+pub returns-in-Ok-write_file-clause-sources : goal.returns-in-Ok-write_file-clause-sources
+returns-in-Ok-write_file-clause-sources g c =
+    pair_copied _ _ _ _ c.write_file.new.media c.in-Ok.ready _ _ c.in-Ok.ensures.sources c.in-Ok-write_file.ensures.reads
 
 pub returns-in-Ok-write_file-clause-sink : goal.returns-in-Ok-write_file-clause-sink
-returns-in-Ok-write_file-clause-sink g c = record {
-  writes = record { stays = c.in-Ok-write_file.ensures.writes.stays; quiet = c.in-Ok-write_file.ensures.writes.quiet; cause = tt };
-  ends = record { finish = c.in-Ok-write_file.ensures.written.finish; untouched = tt };
-}
+returns-in-Ok-write_file-clause-sink g c =
+    sink_copied _ _ c.in-Ok-write_file.ensures.writes c.in-Ok-write_file.ensures.written.finish
 
 pub returns-in-Ok-write_file-clause-panel : goal.returns-in-Ok-write_file-clause-panel
-returns-in-Ok-write_file-clause-panel g c = hears_behind c.args.judges.now c.prepare.new.judges c.in-Ok.ready _ tt (λ qs asks. asks) c.in-Ok.ensures.panel
+returns-in-Ok-write_file-clause-panel g c =
+    hears_behind c.args.judges.now c.prepare.new.judges c.in-Ok.ready _ tt (λ qs asks. asks) c.in-Ok.ensures.panel
 
 -- ---- it is begun, and then the media or the sink fails
 
@@ -88,41 +76,23 @@ pub returns-in-Err-write_file-clause-embedded : goal.returns-in-Err-write_file-c
 returns-in-Err-write_file-clause-embedded g c = λ file known bytes due message due' others undue.
     let said = panel_says (map (λ j. (goal.Judge-dyn g (j.vtable, j.value)).says j.value) c.args.judges.now.items) in
     let hash = g.H.Hashing.digest_of in
-    let once = c.one_opening.ensures.file in
+    let once = one_opening_file in
     let h = c.in-Ok.ensures.prepared.ready file known bytes due message due' others undue in
-    let whole = c.in-Err-write_file.ensures.written.whole file (c.in-Ok.ensures.media.stays.same_bytes ∙ known) in
+    let whole =
+    c.in-Err-write_file.ensures.written.whole file (c.in-Ok.ensures.sources.media.stays.same_bytes ∙ known) in
     broken_off g.K.Sink.written g.K.Sink.spare g.K.Sink.finished hash said file bytes message others
-    (λ x y a b. c.a_collected_build_comes_to_one_thing.ensures.made hash said file bytes message others x y (λ v w p q. once file v w p q) (λ v w p q. once others v w p q) a b)
+    (λ x y a b. a_collected_build_comes_to_one_thing_made hash said file bytes message others x y (λ v w p q. once file v w p q) (λ v w p q. once others v w p q) a b)
     c.in-Ok.ready h.0 c.args.out.now c.write_file.new.out c.in-Err-write_file.error c.copy_fault.result c.copy_fault.ensures h.1 h.2 whole
 
-pub returns-in-Err-write_file-clause-media : goal.returns-in-Err-write_file-clause-media
-returns-in-Err-write_file-clause-media g c =
-    reads_next _ _ _ _ _ c.args.media.now c.prepare.new.media c.write_file.new.media c.in-Ok.ready (Err c.copy_fault.result) c.in-Ok.ensures.media
-    (record { stays = c.in-Err-write_file.ensures.reads.stays; quiet = tt; cause = copy_source embed_effects tt _ _ _ c.in-Err-write_file.error c.copy_fault.result c.copy_fault.ensures c.in-Err-write_file.ensures.reads.cause })
-
-pub returns-in-Err-write_file-clause-definition : goal.returns-in-Err-write_file-clause-definition
-returns-in-Err-write_file-clause-definition g c =
-    reads_then _ _ _ _ _ c.args.definition.now c.prepare.new.definition c.in-Ok.ready (Err c.copy_fault.result)
-    (copy_beside embed_effects tt _ _ (g.A.Source.faults c.prepare.new.media) (g.A.Source.faults c.write_file.new.media) c.in-Err-write_file.error c.copy_fault.result c.copy_fault.ensures
-    (λ rose. inl (subst (λ (n : ℕ). Rose n (g.A.Source.faults c.write_file.new.media)) c.in-Ok.ensures.media.quiet rose)) c.in-Err-write_file.ensures.reads.cause) c.in-Ok.ensures.definition
-
-pub returns-in-Err-write_file-clause-message : goal.returns-in-Err-write_file-clause-message
-returns-in-Err-write_file-clause-message g c =
-    reads_then _ _ _ _ _ c.args.signature.now c.prepare.new.signature c.in-Ok.ready (Err c.copy_fault.result)
-    (copy_beside embed_effects tt _ _ (g.A.Source.faults c.prepare.new.media) (g.A.Source.faults c.write_file.new.media) c.in-Err-write_file.error c.copy_fault.result c.copy_fault.ensures
-    (λ rose. inl (subst (λ (n : ℕ). Rose n (g.A.Source.faults c.write_file.new.media)) c.in-Ok.ensures.media.quiet rose)) c.in-Err-write_file.ensures.reads.cause) c.in-Ok.ensures.message
-
-pub returns-in-Err-write_file-clause-other : goal.returns-in-Err-write_file-clause-other
-returns-in-Err-write_file-clause-other g c =
-    reads_then _ _ _ _ _ c.args.other.now c.prepare.new.other c.in-Ok.ready (Err c.copy_fault.result)
-    (copy_beside embed_effects tt _ _ (g.A.Source.faults c.prepare.new.media) (g.A.Source.faults c.write_file.new.media) c.in-Err-write_file.error c.copy_fault.result c.copy_fault.ensures
-    (λ rose. inl (subst (λ (n : ℕ). Rose n (g.A.Source.faults c.write_file.new.media)) c.in-Ok.ensures.media.quiet rose)) c.in-Err-write_file.ensures.reads.cause) c.in-Ok.ensures.other
+pub returns-in-Err-write_file-clause-sources : goal.returns-in-Err-write_file-clause-sources
+returns-in-Err-write_file-clause-sources g c =
+    pair_broken embed_effects tt _ _ _ _ c.write_file.new.media c.in-Ok.ready c.in-Err-write_file.error c.copy_fault.result
+    c.copy_fault.ensures c.in-Ok.ensures.sources c.in-Err-write_file.ensures.reads
 
 pub returns-in-Err-write_file-clause-sink : goal.returns-in-Err-write_file-clause-sink
-returns-in-Err-write_file-clause-sink g c = record {
-  writes = record { stays = c.in-Err-write_file.ensures.writes.stays; quiet = tt; cause = copy_sink _ _ c.in-Err-write_file.error c.copy_fault.result c.copy_fault.ensures c.in-Err-write_file.ensures.writes.cause };
-  ends = record { finish = c.in-Err-write_file.ensures.written.finish; untouched = copy_leaves _ c.in-Err-write_file.error c.copy_fault.result c.copy_fault.ensures };
-}
+returns-in-Err-write_file-clause-sink g c =
+    sink_broken c.in-Err-write_file.error c.copy_fault.result c.copy_fault.ensures c.in-Err-write_file.ensures.writes
+    c.in-Err-write_file.ensures.written.finish
 
 pub returns-in-Err-write_file-clause-panel : goal.returns-in-Err-write_file-clause-panel
 returns-in-Err-write_file-clause-panel g c =

@@ -1,5 +1,5 @@
 use Rattle.std.proofs.Common.{ap, option_map}
-use Rattle.c2_new_store_spec.specs.Store.{new_alg}
+use Rattle.c2_new_file_spec.specs.Store.{new_alg}
 use Rattle.c2_without_store.specs.Clears.{cleared}
 use Rattle.c2_build_drafts.proofs.NewStores.{signed_is}
 use Rattle.c2_build_drafts.proofs.signing.signed_draft.Goals as goal

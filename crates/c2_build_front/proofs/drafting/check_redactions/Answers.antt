@@ -1,8 +1,8 @@
 use Rattle.std.proofs.Common.{List, Option, [], ap, refl, sym, ◌∙◌, ℕ}
 use Rattle.std.specs.Prelude.{option_map}
 use Rattle.std.specs.Option.{option_to_list}
-use Rattle.c2_parent_spec.specs.Refusing.{redaction_refusal}
-use Rattle.c2_parent_spec.specs.declared.refused.RefusedRedaction.{RefusedRedaction}
+use Rattle.c2_new_file_spec.specs.Refusing.{redaction_refusal}
+use Rattle.c2_new_file_spec.specs.declared.refused.RefusedRedaction.{RefusedRedaction}
 use Rattle.c2_new_front_spec.specs.Order.{redaction_refused}
 use Rattle.c2_build_front.proofs.drafting.check_redactions.Goals as goal
 

@@ -7,7 +7,8 @@ use Rattle.c2_build_in_place.proofs.numbers.put_at.Goals as goal
 
 -- a box is put in behind root boxes, the last of which isn't open
 pub returns-in-Ok-clause-passed : goal.returns-in-Ok-clause-passed
-returns-in-Ok-clause-passed c = λ base p at point. box_fitted _ c.in-Ok.start base p at (subst (λ s. IsInsertPoint s p) c.in-Boxes.is point) c.in-Ok.ensures.place
+returns-in-Ok-clause-passed c =
+    λ base p at point. box_fitted _ c.in-Ok.start base p at (subst (λ s. IsInsertPoint s p) c.in-Boxes.is point) c.in-Ok.ensures.place
 
 -- the last one is
 pub returns-in-BadBox-clause-refused : goal.returns-in-BadBox-clause-refused

@@ -8,7 +8,9 @@ use Rattle.c2_build_refusals.proofs.reading.read_message_file.Goals as goal
 -- the file is too long
 pub returns-in-Err-TooLong-clause-stage : goal.returns-in-Err-TooLong-clause-stage
 returns-in-Err-TooLong-clause-stage g c = λ file known.
-    let reason = subst (HasReason g.C.Source.len g.C.Source.faults MAX_INPUT_LEN c.args.file.now c.read_all.new.source) c.in-Err-TooLong.field-0-is c.in-Err-TooLong.ensures.reason in
+    let reason =
+    subst (HasReason g.C.Source.len g.C.Source.faults MAX_INPUT_LEN c.args.file.now c.read_all.new.source)
+    c.in-Err-TooLong.field-0-is c.in-Err-TooLong.ensures.reason in
     let size : length file ≡ g.C.Source.len c.args.file.now = g.met.C.Source.known_len c.args.file.now file known in
     long_message c.args.protected.now file (omega (arith, size, reason.1))
 

@@ -5,4 +5,6 @@ use Rattle.c2_build_refusals.proofs.signing.signed_over.Goals as goal
 
 -- a header without entries is legal
 pub question-requires : goal.question-requires
-question-requires c = subst IsHeader (sym c.empty_map.ensures) (record { map = (no_pairs, refl); legal = record { shallow = lit≤ tt; distinct = tt; no_bad_simple = λ h. h } })
+question-requires c =
+    subst IsHeader (sym c.empty_map.ensures)
+    (record { map = (no_pairs, refl); legal = record { shallow = lit≤ tt; distinct = tt; no_bad_simple = λ h. h } })

@@ -1,5 +1,5 @@
 use Rattle.c2_definition.specs.declared.types.NewAssertion.{NewAssertion}
-use Rattle.c2_new_store_spec.specs.Written.{IsText}
+use Rattle.c2_new_file_spec.specs.Written.{IsText}
 use Rattle.c2_build_refusals.proofs.Seen.{AllFrom}
 use Rattle.c2_build_refusals.proofs.texts.see_labels.Given as goal
 

@@ -1,4 +1,4 @@
-use Rattle.c2_new_store_spec.specs.Written.{IsText}
+use Rattle.c2_new_file_spec.specs.Written.{IsText}
 use Rattle.c2_build_refusals.proofs.Seen.{AllFrom}
 use Rattle.c2_build_refusals.proofs.texts.see_list.Given as goal
 

@@ -1,8 +1,9 @@
 use Rattle.std.proofs.Common.{subst, sym}
 use Rattle.std.proofs.lemmas.Bool.{false≢true}
 use Rattle.c2_base.specs.Sink.{Spends}
-use Rattle.c2_build_writing.proofs.Written.{box_size, spare_over, writes_taken}
+use Rattle.c2_build_writing.proofs.Written.{spare_over, writes_taken}
 use Rattle.c2_build_writing.proofs.putting.write_boxed.Goals as goal
+use Rattle.c2_spec.proofs.BmffShared.{c2pa_box_length}
 
 -- the store isn't too large for a box
 pub write_box-requires : goal.write_box-requires
@@ -10,18 +11,26 @@ write_box-requires g c = c.requires.sized.most
 
 -- all was taken
 pub returns-in-Ok-clause-step : goal.returns-in-Ok-clause-step
-returns-in-Ok-clause-step g c = record { all = c.in-Ok.ensures.written; less = subst (λ n. Spends (g.K.Sink.spare c.args.out.now) (g.K.Sink.spare c.write_box.new.sink) n) (sym (box_size c.args.store.now)) c.in-Ok.ensures.spare; same = c.in-Ok.ensures.unfinished }
+returns-in-Ok-clause-step g c =
+    record
+    { all = c.in-Ok.ensures.written; less = subst (λ n. Spends (g.K.Sink.spare c.args.out.now) (g.K.Sink.spare c.write_box.new.sink) n) (sym (c2pa_box_length c.args.store.now)) c.in-Ok.ensures.spare; same = c.in-Ok.ensures.unfinished }
 
 pub returns-in-Ok-clause-writes : goal.returns-in-Ok-clause-writes
-returns-in-Ok-clause-writes g c = writes_taken g.K.Sink.written g.K.Sink.spare g.K.Sink.finished g.K.Sink.faults _ c.args.out.now c.write_box.new.sink _ c.in-Ok.ensures.prefix c.in-Ok.ensures.unfinished c.in-Ok.ensures.cause.later c.in-Ok.ensures.cause.ok tt
+returns-in-Ok-clause-writes g c =
+    writes_taken g.K.Sink.written g.K.Sink.spare g.K.Sink.finished g.K.Sink.faults _ c.args.out.now c.write_box.new.sink
+    _ c.in-Ok.ensures.prefix c.in-Ok.ensures.unfinished c.in-Ok.ensures.cause.later c.in-Ok.ensures.cause.ok tt
 
 -- a prefix was taken
 pub returns-in-Err-clause-step : goal.returns-in-Err-clause-step
 returns-in-Err-clause-step g c = record {
   prefix = (c.in-Err.ensures.prefix.count, c.in-Err.ensures.prefix.prefix);
   same = c.in-Err.ensures.unfinished;
-  over = λ s is. spare_over s _ _ (box_size c.args.store.now) (λ le. false≢true (c.in-Err.ensures.within s is le));
+  over =
+      λ s is. spare_over s _ _ (c2pa_box_length c.args.store.now) (λ le. false≢true (c.in-Err.ensures.within s is le));
 }
 
 pub returns-in-Err-clause-writes : goal.returns-in-Err-clause-writes
-returns-in-Err-clause-writes g c = writes_taken g.K.Sink.written g.K.Sink.spare g.K.Sink.finished g.K.Sink.faults _ c.args.out.now c.write_box.new.sink _ c.in-Err.ensures.prefix c.in-Err.ensures.unfinished c.in-Err.ensures.cause.later tt c.in-Err.ensures.cause.failed
+returns-in-Err-clause-writes g c =
+    writes_taken g.K.Sink.written g.K.Sink.spare g.K.Sink.finished g.K.Sink.faults _ c.args.out.now c.write_box.new.sink
+    _ c.in-Err.ensures.prefix c.in-Err.ensures.unfinished c.in-Err.ensures.cause.later tt
+    c.in-Err.ensures.cause.failed

@@ -1,6 +1,6 @@
 use Rattle.std.proofs.Common.{◌≡◌, ◌++◌, List, ℕ, length, subst, sym, ◌∙◌, arith}
 use Rattle.std.specs.Prelude.{Err}
-use Rattle.c2_copying.specs.Writing.{Breaks, IsReadCause, IsStep, ending_of, piece_of}
+use Rattle.c2_copying.specs.Writing.{Breaks, IsCopyReadCause, IsStep, ending_of, piece_of}
 use Rattle.c2_copying.specs.declared.copying.CopyError.{CopyError}
 use Rattle.c2_calls_spec.proofs.SourceLemmas.{reads_next, reads_then}
 use Rattle.c2_build_writing.specs.Puts.{put_of}
@@ -29,14 +29,16 @@ returns-in-Err-put_store-clause-step g c = λ file known.
     let step = c.in-Err-put_store.ensures.step in
     let len : length file ≡ g.B.Source.len c.args.base.now = g.met.B.Source.known_len c.args.base.now file known in
     let size : draft.size ≡ length file = omega (arith, len, c.requires.can.size) in
-    subst (λ (x : List ℕ). Breaks g.K.Sink.written g.K.Sink.spare g.K.Sink.finished x c.args.out.now c.put_store.new.out ending) (new_parts file packets draft.start draft.size size c.requires.can.inside)
+    subst
+    (λ (x : List ℕ). Breaks g.K.Sink.written g.K.Sink.spare g.K.Sink.finished x c.args.out.now c.put_store.new.out ending)
+    (new_parts file packets draft.start draft.size size c.requires.can.inside)
     (c.steps_follow.ensures.steps.second (piece_of file 0 draft.start) (packets ++ rest) c.args.out.now c.copy.new.sink c.put_store.new.out ending (c.in-Ok.ensures.step file known)
     (c.steps_follow.ensures.steps.first packets rest c.copy.new.sink c.put_store.new.out ending step))
 
 pub returns-in-Err-put_store-clause-reads : goal.returns-in-Err-put_store-clause-reads
 returns-in-Err-put_store-clause-reads g c =
     reads_then _ _ _ _ _ c.args.base.now c.copy.new.source c.in-Ok.field-0 (Err c.in-Err-put_store.error)
-    (subst (λ (e : CopyError). IsReadCause (g.B.Source.faults c.args.base.now) (g.B.Source.faults c.copy.new.source) e) (sym c.in-Err-put_store.ensures.fault) c.in-Ok.ensures.reads.quiet) c.in-Ok.ensures.reads
+    (subst (λ (e : CopyError). IsCopyReadCause (g.B.Source.faults c.args.base.now) (g.B.Source.faults c.copy.new.source) e) (sym c.in-Err-put_store.ensures.fault) c.in-Ok.ensures.reads.quiet) c.in-Ok.ensures.reads
 
 pub returns-in-Err-put_store-clause-writes : goal.returns-in-Err-put_store-clause-writes
 returns-in-Err-put_store-clause-writes g c =
@@ -52,15 +54,21 @@ returns-clause-step g c = λ file known.
     let step = c.in-Ok-put_store.ensures.step in
     let len : length file ≡ g.B.Source.len c.args.base.now = g.met.B.Source.known_len c.args.base.now file known in
     let size : draft.size ≡ length file = omega (arith, len, c.requires.can.size) in
-    subst (λ (x : List ℕ). IsStep g.K.Sink.written g.K.Sink.spare g.K.Sink.finished x c.args.out.now c.copy-2.new.sink c.copy-2.result) (new_parts file packets draft.start draft.size size c.requires.can.inside)
+    subst
+    (λ (x : List ℕ). IsStep g.K.Sink.written g.K.Sink.spare g.K.Sink.finished x c.args.out.now c.copy-2.new.sink c.copy-2.result)
+    (new_parts file packets draft.start draft.size size c.requires.can.inside)
     (step_back g.K.Sink.written g.K.Sink.spare g.K.Sink.finished (piece_of file 0 draft.start) (packets ++ rest) c.args.out.now c.copy.new.sink c.copy-2.new.sink c.copy-2.result c.steps_follow.ensures.steps (c.in-Ok.ensures.step file known)
     (step_back g.K.Sink.written g.K.Sink.spare g.K.Sink.finished packets rest c.copy.new.sink c.put_store.new.out c.copy-2.new.sink c.copy-2.result c.steps_follow.ensures.steps step
     (c.copy-2.ensures.step file (c.in-Ok.ensures.reads.stays.same_bytes ∙ known))))
 
 pub returns-clause-reads : goal.returns-clause-reads
-returns-clause-reads g c = reads_next _ _ _ _ _ c.args.base.now c.copy.new.source c.copy-2.new.source c.in-Ok.field-0 c.copy-2.result c.in-Ok.ensures.reads c.copy-2.ensures.reads
+returns-clause-reads g c =
+    reads_next _ _ _ _ _ c.args.base.now c.copy.new.source c.copy-2.new.source c.in-Ok.field-0 c.copy-2.result
+    c.in-Ok.ensures.reads c.copy-2.ensures.reads
 
 pub returns-clause-writes : goal.returns-clause-writes
 returns-clause-writes g c =
-    let both = c.steps_follow.ensures.stays.both c.args.out.now c.copy.new.sink c.put_store.new.out c.in-Ok.ensures.writes.stays c.in-Ok-put_store.ensures.writes.stays in
+    let both =
+    c.steps_follow.ensures.stays.both c.args.out.now c.copy.new.sink c.put_store.new.out
+    c.in-Ok.ensures.writes.stays c.in-Ok-put_store.ensures.writes.stays in
     writes_after g.K.Sink.written g.K.Sink.finished g.K.Sink.faults c.args.out.now c.put_store.new.out c.copy-2.new.sink c.copy-2.result c.steps_follow.ensures.stays both (c.in-Ok-put_store.ensures.writes.quiet ∙ c.in-Ok.ensures.writes.quiet) c.copy-2.ensures.writes

@@ -8,16 +8,22 @@ use Rattle.c2_build_writing.proofs.putting.write_whole.Goals as goal
 
 -- a source or the sink failed
 pub returns-in-Err-clause-written : goal.returns-in-Err-clause-written
-returns-in-Err-clause-written g c = record { whole = λ file known. c.in-Err.ensures.step file known; finish = c.in-Err.ensures.writes.stays.unfinished }
+returns-in-Err-clause-written g c =
+    record { whole = λ file known. c.in-Err.ensures.step file known; finish = c.in-Err.ensures.writes.stays.unfinished }
 
 pub returns-in-Err-clause-writes : goal.returns-in-Err-clause-writes
-returns-in-Err-clause-writes g c = writes_unsaid g.K.Sink.written g.K.Sink.finished g.K.Sink.faults c.args.out.now c.write_over.new.out _ c.in-Err.ensures.writes
+returns-in-Err-clause-writes g c =
+    writes_unsaid g.K.Sink.written g.K.Sink.finished g.K.Sink.faults c.args.out.now c.write_over.new.out _
+    c.in-Err.ensures.writes
 
 -- all was written, and the sink is finished
 pub returns-in-Ok-finish-clause-written : goal.returns-in-Ok-finish-clause-written
 returns-in-Ok-finish-clause-written g c = record {
   whole = λ file known. record {
-    whole = subst (λ (w : Option (List ℕ)). Appends (g.K.Sink.written c.args.out.now) w (put_file c.args.draft c.args.store.now file)) (sym c.in-Ok-finish.ensures.written) (c.in-Ok.ensures.step file known).all;
+    whole =
+        subst
+        (λ (w : Option (List ℕ)). Appends (g.K.Sink.written c.args.out.now) w (put_file c.args.draft c.args.store.now file))
+        (sym c.in-Ok-finish.ensures.written) (c.in-Ok.ensures.step file known).all;
     ends = c.in-Ok-finish.ensures.finished;
   };
   finish = c.in-Ok-finish.ensures.finished;
@@ -37,7 +43,9 @@ returns-in-Err-finish-clause-written g c = record {
 }
 
 pub returns-in-Err-finish-clause-reads : goal.returns-in-Err-finish-clause-reads
-returns-in-Err-finish-clause-reads g c = reads_then _ _ _ _ _ c.args.base.now c.write_over.new.base c.in-Ok.field-0 _ c.in-Ok.ensures.reads.quiet c.in-Ok.ensures.reads
+returns-in-Err-finish-clause-reads g c =
+    reads_then _ _ _ _ _ c.args.base.now c.write_over.new.base c.in-Ok.field-0 _ c.in-Ok.ensures.reads.quiet
+    c.in-Ok.ensures.reads
 
 pub returns-in-Err-finish-clause-writes : goal.returns-in-Err-finish-clause-writes
 returns-in-Err-finish-clause-writes g c =

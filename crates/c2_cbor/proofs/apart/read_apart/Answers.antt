@@ -10,7 +10,8 @@ use Rattle.c2_cbor.proofs.apart.read_apart.Goals as goal
 pub returns-in_err-head : goal.returns-in_err-head
 returns-in_err-head c =
     let p = err_from_is_err_and c.from_residual.result c.from_residual.ensures.1 in
-    rw (p.1, p.2) (item_at-wrong is_known 64 c.args.bytes.now c.in_err-head.field-0.0 (omega arith) c.in_err-head.ensures)
+    rw (p.1, p.2)
+    (item_at-wrong is_known 64 c.args.bytes.now c.in_err-head.field-0.0 (omega arith) c.in_err-head.ensures)
 
 pub returns-in_ok-fields-in-Map : goal.returns-in_ok-fields-in-Map
 returns-in_ok-fields-in-Map c =
@@ -21,6 +22,7 @@ returns-in_ok-fields-in-Map c =
 
 pub returns-in_err-fields-in-Map : goal.returns-in_err-fields-in-Map
 returns-in_err-fields-in-Map c =
-    let p = err_from_is_err_and c.from_residual-in_err-fields-in-Map.result c.from_residual-in_err-fields-in-Map.ensures.1 in
+    let p =
+    err_from_is_err_and c.from_residual-in_err-fields-in-Map.result c.from_residual-in_err-fields-in-Map.ensures.1 in
     rw (p.1, p.2) (fields_wrong 64 c.args.bytes.now c.in_ok-head.rest.now c.in-Map.count (omega arith) c.in_err-fields-in-Map.field-0.0
     (c.in_ok-head.ensures ∙ ap (λ h. Ok (h, c.in_ok-head.rest.now)) c.in-Map.is) c.in_err-fields-in-Map.ensures)

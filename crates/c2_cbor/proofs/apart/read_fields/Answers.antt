@@ -18,22 +18,27 @@ use Rattle.c2_cbor.proofs.apart.read_fields.Goals as goal
 
 pub returns-in-Some : goal.returns-in-Some
 returns-in-Some c =
-    let total = pairs is_known (item_at is_known c.args.levels) (suc (length c.args.bytes.now)) c.args.count [] c.args.bytes.now in
+    let total =
+    pairs is_known (item_at is_known c.args.levels) (suc (length c.args.bytes.now)) c.args.count [] c.args.bytes.now in
     pairs_out is_known (item_at is_known c.args.levels) (item_at-under is_known c.args.levels) total
     (pairs_with c.args.name.now c.loop-after.texts (pairs_seen c.loop-after.found.items)) (keys_of c.loop-after.found.items) c.loop-after.rest.now c.loop-after.due c.in-Some.after.now (sym c.in-Some.ensures)
     (until_none c.loop-after.found.items _ c.loop-after.places.items total _ c.as_slice.ensures.value c.in_ok-check_keys-in-Some.ensures.distinct c.loop-after.invariant.0)
 
 pub returns-in-Err : goal.returns-in-Err
 returns-in-Err c =
-    let total = pairs is_known (item_at is_known c.args.levels) (suc (length c.args.bytes.now)) c.args.count [] c.args.bytes.now in
+    let total =
+    pairs is_known (item_at is_known c.args.levels) (suc (length c.args.bytes.now)) c.args.count [] c.args.bytes.now in
     pairs_wrong is_known (item_at is_known c.args.levels) (item_at-under is_known c.args.levels) total
     (pairs_with c.args.name.now c.loop-after.texts (pairs_seen c.loop-after.found.items)) (keys_of c.loop-after.found.items) c.loop-after.rest.now c.loop-after.due c.in-Err.e (sym c.in-None.ensures) c.in-Err.ensures
     (until_none c.loop-after.found.items _ c.loop-after.places.items total _ c.as_slice-in-Err.ensures.value c.in_ok-check_keys-in-Err.ensures.distinct c.loop-after.invariant.0)
 
 pub returns-in_err-check_keys-in-Err-read_value : goal.returns-in_err-check_keys-in-Err-read_value
 returns-in_err-check_keys-in-Err-read_value c =
-    let total = pairs is_known (item_at is_known c.args.levels) (suc (length c.args.bytes.now)) c.args.count [] c.args.bytes.now in
-    let p = err_from_is_err_and c.from_residual-in_err-check_keys-in-Err-read_value.result c.from_residual-in_err-check_keys-in-Err-read_value.ensures.1 in
+    let total =
+    pairs is_known (item_at is_known c.args.levels) (suc (length c.args.bytes.now)) c.args.count [] c.args.bytes.now in
+    let p =
+    err_from_is_err_and c.from_residual-in_err-check_keys-in-Err-read_value.result
+    c.from_residual-in_err-check_keys-in-Err-read_value.ensures.1 in
     let item = item_at is_known c.args.levels in
     let under = item_at-under is_known c.args.levels in
     let found = c.loop-after.found.items in
@@ -46,7 +51,8 @@ returns-in_err-check_keys-in-Err-read_value c =
 
 pub returns-in-Err-read_value : goal.returns-in-Err-read_value
 returns-in-Err-read_value c =
-    let total = pairs is_known (item_at is_known c.args.levels) (suc (length c.args.bytes.now)) c.args.count [] c.args.bytes.now in
+    let total =
+    pairs is_known (item_at is_known c.args.levels) (suc (length c.args.bytes.now)) c.args.count [] c.args.bytes.now in
     let item = item_at is_known c.args.levels in
     let under = item_at-under is_known c.args.levels in
     let found = c.loop-after.found.items in
@@ -55,20 +61,27 @@ returns-in-Err-read_value c =
     c.in_ok-push_member-in-Err-read_value.ensures c.loop-after.places.items c.push.new.self.items
     c.loop-after.rest.now c.loop-after.due c.in-Ok.read.1.now c.in_ok-push.ensures.items c.loop-after.invariant.1
     (sym c.in-None.ensures) c.in-Ok.ensures c.loop-after.invariant.0 in
-    let go = until_none c.push_member.new.members.items _ c.push.new.self.items total _ c.as_slice-in-Err-read_value.ensures.value c.in_ok-check_keys-in-Err-read_value.ensures.distinct key in
+    let go =
+    until_none c.push_member.new.members.items _ c.push.new.self.items total _
+    c.as_slice-in-Err-read_value.ensures.value c.in_ok-check_keys-in-Err-read_value.ensures.distinct key in
     pairs_wrong_value is_known item under total whole (keys_of found) c.loop-after.rest.now c.loop-after.due
     c.in-Err-read_value.e (view c.in-Ok.read.0) c.in-Ok.read.1.now (sym c.in-None.ensures) c.in-Ok.ensures go.1
     c.in-Err-read_value.ensures.value go.0
 
 pub loop-after-smaller : goal.loop-after-smaller
 loop-after-smaller c =
-    let first : length c.in-Ok.read.1.now < length c.loop-after.rest.now = under_ok _ (item_at is_known c.args.levels c.loop-after.rest.now) _ _ c.in-Ok.ensures (item_at-under is_known c.args.levels c.loop-after.rest.now) in
-    let second : length c.in-Ok-read_value.read.1.now < length c.in-Ok.read.1.now = under_ok _ (item_at is_known c.args.levels c.in-Ok.read.1.now) _ _ c.in-Ok-read_value.ensures.value (item_at-under is_known c.args.levels c.in-Ok.read.1.now) in
+    let first : length c.in-Ok.read.1.now < length c.loop-after.rest.now =
+    under_ok _ (item_at is_known c.args.levels c.loop-after.rest.now) _ _ c.in-Ok.ensures
+    (item_at-under is_known c.args.levels c.loop-after.rest.now) in
+    let second : length c.in-Ok-read_value.read.1.now < length c.in-Ok.read.1.now =
+    under_ok _ (item_at is_known c.args.levels c.in-Ok.read.1.now) _ _ c.in-Ok-read_value.ensures.value
+    (item_at-under is_known c.args.levels c.in-Ok.read.1.now) in
     omega (arith, first, second)
 
 pub loop-after-preserved : goal.loop-after-preserved
 loop-after-preserved c =
-    let total = pairs is_known (item_at is_known c.args.levels) (suc (length c.args.bytes.now)) c.args.count [] c.args.bytes.now in
+    let total =
+    pairs is_known (item_at is_known c.args.levels) (suc (length c.args.bytes.now)) c.args.count [] c.args.bytes.now in
     let item = item_at is_known c.args.levels in
     let under = item_at-under is_known c.args.levels in
     let name = c.args.name.now in
@@ -79,7 +92,8 @@ loop-after-preserved c =
     let texts = option_or c.loop-after.texts value.texts in
     let p : Cbor × Cbor = (c.in-Ok.read.0, value.item) in
     let pushed : later ≡ found ++ p ∷ [] = c.in_ok-push_member.ensures in
-    let e : pairs_seen later ≡ pairs_seen found ++ (k, view value.item) ∷ [] = ap pairs_seen pushed ∙ map_push (λ q. (view q.0, view q.1)) found p in
+    let e : pairs_seen later ≡ pairs_seen found ++ (k, view value.item) ∷ [] =
+    ap pairs_seen pushed ∙ map_push (λ q. (view q.0, view q.1)) found p in
     let keys : keys_of later ≡ with_key (keys_of found) (preferred k) = keys_push found later p pushed in
     let key = until_key item under total (pairs_with name c.loop-after.texts (pairs_seen found)) found later p pushed
     c.loop-after.places.items c.push.new.self.items c.loop-after.rest.now c.loop-after.due c.in-Ok.read.1.now c.in_ok-push.ensures.items c.loop-after.invariant.1 (sym c.in-None.ensures) c.in-Ok.ensures c.loop-after.invariant.0 in

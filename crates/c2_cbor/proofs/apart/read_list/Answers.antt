@@ -8,7 +8,8 @@ use Rattle.c2_cbor.proofs.apart.read_list.Goals as goal
 pub returns-in_err-head : goal.returns-in_err-head
 returns-in_err-head c =
     let p = err_from_is_err_and c.from_residual.result c.from_residual.ensures.1 in
-    rw (p.1, p.2) (item_at-wrong is_known c.args.levels c.args.bytes.now c.in_err-head.field-0.0 c.requires c.in_err-head.ensures)
+    rw (p.1, p.2)
+    (item_at-wrong is_known c.args.levels c.args.bytes.now c.in_err-head.field-0.0 c.requires c.in_err-head.ensures)
 
 pub returns-in-List : goal.returns-in-List
 returns-in-List c =

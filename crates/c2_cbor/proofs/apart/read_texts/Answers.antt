@@ -21,11 +21,16 @@ returns-in_err-item c =
     (map text c.loop-after.found.items) c.loop-after.rest.now c.loop-after.due c.in_err-item.field-0.0 (sym c.in-None.ensures) c.in_err-item.ensures c.loop-after.invariant)
 
 pub loop-after-smaller : goal.loop-after-smaller
-loop-after-smaller c = under_ok _ (item_at is_known c.args.levels c.loop-after.rest.now) _ _ c.in_ok-item.ensures (item_at-under is_known c.args.levels c.loop-after.rest.now)
+loop-after-smaller c =
+    under_ok _ (item_at is_known c.args.levels c.loop-after.rest.now) _ _ c.in_ok-item.ensures
+    (item_at-under is_known c.args.levels c.loop-after.rest.now)
 
 pub loop-after-preserved : goal.loop-after-preserved
 loop-after-preserved c =
-    let e : map text c.push_member.new.members.items ≡ map text c.loop-after.found.items ++ text c.in-Text.text ∷ [] = ap (map text) c.in_ok-push_member.ensures ∙ map_push text c.loop-after.found.items c.in-Text.text in
-    let is : item_at is_known c.args.levels c.loop-after.rest.now ≡ Ok (text c.in-Text.text, c.in_ok-item.after.now) = c.in_ok-item.ensures ∙ ap (λ v. Ok (v, c.in_ok-item.after.now)) (ap view c.in-Text.is ∙ view-text c.in-Text.text) in
+    let e : map text c.push_member.new.members.items ≡ map text c.loop-after.found.items ++ text c.in-Text.text ∷ [] =
+    ap (map text) c.in_ok-push_member.ensures ∙ map_push text c.loop-after.found.items c.in-Text.text in
+    let is : item_at is_known c.args.levels c.loop-after.rest.now ≡ Ok (text c.in-Text.text, c.in_ok-item.after.now) =
+    c.in_ok-item.ensures
+    ∙ ap (λ v. Ok (v, c.in_ok-item.after.now)) (ap view c.in-Text.is ∙ view-text c.in-Text.text) in
     rw (e, c.one_fewer-due.ensures) (items_on (item_at is_known c.args.levels) (item_at-under is_known c.args.levels) (items (item_at is_known c.args.levels) (suc (length c.args.bytes.now)) c.args.count c.args.bytes.now)
     (map text c.loop-after.found.items) c.loop-after.rest.now c.loop-after.due (text c.in-Text.text) c.in_ok-item.after.now (sym c.in-None.ensures) is c.loop-after.invariant)

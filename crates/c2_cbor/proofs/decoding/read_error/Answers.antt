@@ -5,7 +5,8 @@ use Rattle.c2_cbor_spec.proofs.Decoded.{fits_of, only_err, told_err, comes, fail
 use Rattle.c2_cbor.proofs.decoding.read_error.Goals as goal
 
 pub returns-in-Memory : goal.returns-in-Memory
-returns-in-Memory c is = record { only = λ w m b. refl; fault = inl refl; refused = λ d h. inl refl; prefix = λ at q. cc }
+returns-in-Memory c is =
+    record { only = λ w m b. refl; fault = inl refl; refused = λ d h. inl refl; prefix = λ at q. cc }
 
 pub returns-in-Fault : goal.returns-in-Fault
 returns-in-Fault c is =

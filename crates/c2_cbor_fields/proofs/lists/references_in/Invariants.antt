@@ -7,4 +7,5 @@ use Rattle.c2_cbor_fields.proofs.lists.references_in.Given as goal
 
 -- the references of all items are those found so far, then those of the items that are left
 abbrev pub invariant-loop-item : goal.invariant-loop-item
-invariant-loop-item l = each_of ref_of (items_view l.items) ≡ after l.found.items (each_of ref_of (items_view (drop l.item-index l.items)))
+invariant-loop-item l =
+    each_of ref_of (items_view l.items) ≡ after l.found.items (each_of ref_of (items_view (drop l.item-index l.items)))

@@ -6,5 +6,6 @@ use Rattle.c2_cbor_write.proofs.checks.+deeper.Goals as goal
 
 pub is_deeper-returns-in-Map : goal.is_deeper-returns-in-Map
 is_deeper-returns-in-Map t c =
-    let e : depth (view c.args.item.now) ≡ suc (pairs_depth (pairs_view c.deref-in-Map.result.now)) = ap (λ v. depth (view v)) c.in-Map.is ∙ depth-Map c.in-Map.pairs _ c.deref-in-Map.ensures.value in
+    let e : depth (view c.args.item.now) ≡ suc (pairs_depth (pairs_view c.deref-in-Map.result.now)) =
+    ap (λ v. depth (view v)) c.in-Map.is ∙ depth-Map c.in-Map.pairs _ c.deref-in-Map.ensures.value in
     (λ h. let g = c.pairs_deeper.ensures.0 h in omega (arith, e, g), λ h. c.pairs_deeper.ensures.1 (omega (arith, e, h)))

@@ -45,23 +45,33 @@ deterministic_keys-loop-i-preserved t c =
     let here : take (i + 1) xs ≡ take i xs ++ x ∷ [] = take_more xs i c.index-pairs-i.result (omega arith) in
     let left : drop i xs ≡ x ∷ drop (i + 1) xs = drop_more xs i c.index-pairs-i.result (omega arith) in (
       spelled_on (det_keys (take i xs)) (det_keys (take (i + 1) xs)) (deterministic (view x.0))
-          c.loop-i.bytes.items _ c.loop-i.lens.items _ _ (ap det_keys here ∙ map_push (λ p. deterministic (view p.0)) (take i xs) x)
+          c.loop-i.bytes.items _ c.loop-i.lens.items _ _
+          (ap det_keys here ∙ map_push (λ p. deterministic (view p.0)) (take i xs) x)
           c.in_ok-this.ensures.bytes c.in_ok-push.ensures.items (omega arith) c.loop-i.invariant.0,
       fewer_left _ c.loop-i.plain _ _ _ (KeysPlain (drop (i + 1) xs)) (subst (λ ps. ((c.loop-i.plain ≡ true) × KeysPlain ps) ↔ KeysPlain xs) left c.loop-i.invariant.1) c.in_ok-this.ensures.plain c.both-plain.ensures,
     )
 
 pub push_deterministic_pairs-returns-clause-bytes : goal.push_deterministic_pairs-returns-clause-bytes
 push_deterministic_pairs-returns-clause-bytes t c =
-    let order = c.in_ok-keys.ensures (det_keys c.args.pairs.now) (stand_moved _ _ _ _ _ c.as_slice.ensures.value c.as_slice-2.ensures.value c.in_ok-bytes.ensures.keys) in
-    det_written c.args.pairs.now c.in_ok-keys.keys.items _ _ _ order c.as_slice-3.ensures.value c.in_ok-values_plain.ensures.bytes
+    let order =
+    c.in_ok-keys.ensures (det_keys c.args.pairs.now)
+    (stand_moved _ _ _ _ _ c.as_slice.ensures.value c.as_slice-2.ensures.value c.in_ok-bytes.ensures.keys) in
+    det_written c.args.pairs.now c.in_ok-keys.keys.items _ _ _ order c.as_slice-3.ensures.value
+    c.in_ok-values_plain.ensures.bytes
 
 pub push_deterministic_pairs-returns-clause-plain : goal.push_deterministic_pairs-returns-clause-plain
 push_deterministic_pairs-returns-clause-plain t c =
-    let order = c.in_ok-keys.ensures (det_keys c.args.pairs.now) (stand_moved _ _ _ _ _ c.as_slice.ensures.value c.as_slice-2.ensures.value c.in_ok-bytes.ensures.keys) in
-    plain_pairs c.args.pairs.now c.in_ok-keys.keys.items _ _ _ _ _ _ _ order c.as_slice-4.ensures.value c.as_slice-3.ensures.value
-    c.all_differ-differ.ensures c.in_ok-bytes.ensures.plain c.in_ok-values_plain.ensures.plain c.both-parts.ensures c.both.ensures
+    let order =
+    c.in_ok-keys.ensures (det_keys c.args.pairs.now)
+    (stand_moved _ _ _ _ _ c.as_slice.ensures.value c.as_slice-2.ensures.value c.in_ok-bytes.ensures.keys) in
+    plain_pairs c.args.pairs.now c.in_ok-keys.keys.items _ _ _ _ _ _ _ order c.as_slice-4.ensures.value
+    c.as_slice-3.ensures.value
+    c.all_differ-differ.ensures c.in_ok-bytes.ensures.plain c.in_ok-values_plain.ensures.plain c.both-parts.ensures
+    c.both.ensures
 
 pub push_deterministic_pairs-push_sorted-requires : goal.push_deterministic_pairs-push_sorted-requires
 push_deterministic_pairs-push_sorted-requires t c =
-    let order = c.in_ok-keys.ensures (det_keys c.args.pairs.now) (stand_moved _ _ _ _ _ c.as_slice.ensures.value c.as_slice-2.ensures.value c.in_ok-bytes.ensures.keys) in
+    let order =
+    c.in_ok-keys.ensures (det_keys c.args.pairs.now)
+    (stand_moved _ _ _ _ _ c.as_slice.ensures.value c.as_slice-2.ensures.value c.in_ok-bytes.ensures.keys) in
     (search rules, keys_are c.args.pairs.now c.in_ok-keys.keys.items _ order c.as_slice-3.ensures.value)

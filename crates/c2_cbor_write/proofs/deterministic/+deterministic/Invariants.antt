@@ -13,7 +13,8 @@ invariant-push_deterministic_items-loop-item l =
 
 abbrev pub invariant-deterministic_keys-loop-i : goal.invariant-deterministic_keys-loop-i
 invariant-deterministic_keys-loop-i l =
-    StandIn (det_keys (take l.i l.pairs)) l.bytes.items l.lens.items × (((l.plain ≡ true) × KeysPlain (drop l.i l.pairs)) ↔ KeysPlain l.pairs)
+    StandIn (det_keys (take l.i l.pairs)) l.bytes.items l.lens.items
+    × (((l.plain ≡ true) × KeysPlain (drop l.i l.pairs)) ↔ KeysPlain l.pairs)
 
 abbrev pub invariant-push_sorted-loop-i : goal.invariant-push_sorted-loop-i
 invariant-push_sorted-loop-i l =

@@ -13,4 +13,5 @@ invariant-items_equal-loop-item l = FineItems (items_view l.items) →
     × (ItemsHaveDistinctKeys (items_view (drop l.item-index l.items)) → ItemsHaveDistinctKeys (items_view l.items))
 
 abbrev pub invariant-pairs_equal-loop-pair : goal.invariant-pairs_equal-loop-pair
-invariant-pairs_equal-loop-pair l = FinePairs (pairs_view l.pairs) → PartsLeft (pairs_view l.pairs) (pairs_view (drop l.pair-index l.pairs))
+invariant-pairs_equal-loop-pair l =
+    FinePairs (pairs_view l.pairs) → PartsLeft (pairs_view l.pairs) (pairs_view (drop l.pair-index l.pairs))

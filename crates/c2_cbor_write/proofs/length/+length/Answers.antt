@@ -39,8 +39,12 @@ with_item-returns-in_ok-start-in-Tag t c =
 
 pub with_items-returns : goal.with_items-returns
 with_items-returns t c =
-    sum_done _ _ _ _ c.loop-item.invariant.0 (ap (λ vs. length (preferred_items (items_view vs))) (drop_all c.loop-item.item-index c.args.items.now c.loop-item-test.false)) c.loop-item.invariant.1
+    sum_done _ _ _ _ c.loop-item.invariant.0
+    (ap (λ vs. length (preferred_items (items_view vs))) (drop_all c.loop-item.item-index c.args.items.now c.loop-item-test.false))
+    c.loop-item.invariant.1
 
 pub with_pairs-returns : goal.with_pairs-returns
 with_pairs-returns t c =
-    sum_done _ _ _ _ c.loop-pair.invariant.0 (ap (λ ps. length (preferred_pairs (pairs_view ps))) (drop_all c.loop-pair.pair-index c.args.pairs.now c.loop-pair-test.false)) c.loop-pair.invariant.1
+    sum_done _ _ _ _ c.loop-pair.invariant.0
+    (ap (λ ps. length (preferred_pairs (pairs_view ps))) (drop_all c.loop-pair.pair-index c.args.pairs.now c.loop-pair-test.false))
+    c.loop-pair.invariant.1

@@ -8,7 +8,8 @@ use Rattle.c2_chain.proofs.manifest.check_asked.Goals as goal
 
 -- memory ran out before anybody was asked
 pub returns-in-Err-clause-panel : goal.returns-in-Err-clause-panel
-returns-in-Err-clause-panel g c = hears_early _ _ _ _ (AsksThese (option_to_list (question_in c.args.own.now))) c.args.judges.now NoMemory refl
+returns-in-Err-clause-panel g c =
+    hears_early _ _ _ _ (AsksThese (option_to_list (question_in c.args.own.now))) c.args.judges.now NoMemory refl
 
 -- a judge failed
 pub returns-in-Err-verdict_of-clause-panel : goal.returns-in-Err-verdict_of-clause-panel

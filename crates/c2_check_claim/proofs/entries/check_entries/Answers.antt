@@ -13,4 +13,6 @@ returns-in-Some g c =
 -- where this entry passes too, what fails first of all entries is among the rest
 pub loop-k-preserved : goal.loop-k-preserved
 loop-k-preserved g c =
-    entry_passed (entry_tests g.H.Hashing.digest_of (seen_in c.args.at.now c.args.own.now)) (entries_in c.args.own.now) c.loop-k.k c.entry_at-entry.result.now c.entry_at-entry.ensures c.loop-k.invariant (sym c.in_default.is ∙ c.in_ok-found.ensures)
+    entry_passed (entry_tests g.H.Hashing.digest_of (seen_in c.args.at.now c.args.own.now)) (entries_in c.args.own.now)
+    c.loop-k.k c.entry_at-entry.result.now c.entry_at-entry.ensures c.loop-k.invariant
+    (sym c.in_default.is ∙ c.in_ok-found.ensures)

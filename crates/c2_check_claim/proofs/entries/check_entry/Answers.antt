@@ -10,5 +10,6 @@ use Rattle.c2_check_claim.proofs.entries.check_entry.Goals as goal
 -- what fails of an entry by the label that it lists fails of the entry
 pub returns-in-Some : goal.returns-in-Some
 returns-in-Some g c =
-    by_some (λ (label : List ℕ). labelled_tests g.H.Hashing.digest_of (seen_in c.args.at.now c.args.own.now) (take c.args.k (entries_in c.args.own.now)) c.args.entry.now label (assertion_uri (label_in c.args.own.now) label))
+    by_some
+    (λ (label : List ℕ). labelled_tests g.H.Hashing.digest_of (seen_in c.args.at.now c.args.own.now) (take c.args.k (entries_in c.args.own.now)) c.args.entry.now label (assertion_uri (label_in c.args.own.now) label))
     (entry_label c.args.own.now.manifest c.args.entry.now) c.in-Some.label.now _ c.check_labelled.result (sym c.in-Some.ensures) c.check_labelled.ensures

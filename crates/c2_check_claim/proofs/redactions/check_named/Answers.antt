@@ -9,5 +9,6 @@ use Rattle.c2_check_claim.proofs.redactions.check_named.Goals as goal
 -- what fails of a redaction by the label of an assertion fails by the target of its URI
 pub returns-in-Assertion : goal.returns-in-Assertion
 returns-in-Assertion c =
-    subst (λ (t : Target). IfOk c.check_target.result (λ found. found ≡ first_failing (target_tests (label_in c.args.own.now) (claim_uri c.args.own.now) (option_map (λ x. x.now) c.args.manifest) (target_view t))))
+    subst
+    (λ (t : Target). IfOk c.check_target.result (λ found. found ≡ first_failing (target_tests (label_in c.args.own.now) (claim_uri c.args.own.now) (option_map (λ x. x.now) c.args.manifest) (target_view t))))
     (sym c.in-Assertion.is) c.check_target.ensures

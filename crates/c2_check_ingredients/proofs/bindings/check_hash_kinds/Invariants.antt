@@ -8,4 +8,5 @@ use Rattle.c2_check_ingredients.proofs.bindings.check_hash_kinds.Given as goal
 abbrev pub invariant-loop-k : goal.invariant-loop-k
 invariant-loop-k l =
     let test_of = hash_kind_test (seen_in l.at l.own) in
-    first_failing (over_all test_of 0 (map (λ x. x.now) l.labels)) ≡ first_failing (over_all test_of l.k (drop l.k (map (λ x. x.now) l.labels)))
+    first_failing (over_all test_of 0 (map (λ x. x.now) l.labels)) ≡ first_failing
+    (over_all test_of l.k (drop l.k (map (λ x. x.now) l.labels)))

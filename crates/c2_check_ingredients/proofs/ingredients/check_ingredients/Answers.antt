@@ -8,5 +8,6 @@ use Rattle.c2_check_ingredients.proofs.ingredients.check_ingredients.Goals as go
 -- where all ingredient boxes before it pass, what fails of this one fails first of all
 pub returns-in-Some : goal.returns-in-Some
 returns-in-Some g c =
-    each_failed (λ (k : ℕ) (b : ReadBox). ingredient_tests g.H.Hashing.digest_of (seen_in c.args.store.now.at c.args.own.now) b)
+    each_failed
+    (λ (k : ℕ) (b : ReadBox). ingredient_tests g.H.Hashing.digest_of (seen_in c.args.store.now.at c.args.own.now) b)
     c.args.boxes.now c.loop-k.k c.index-boxes-k.result c.in_ok-found.found c.in-Some.failing c.loop-k-test.true c.index-boxes-k.is c.loop-k.invariant c.in-Some.is c.in_ok-found.ensures

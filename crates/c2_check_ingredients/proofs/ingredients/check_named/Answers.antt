@@ -18,7 +18,8 @@ returns g c =
     let at = c.args.store.now.at in
     let named = c.args.named.now in
     child_stands g.H.Hashing.digest_of c.args.own.now
-    (assertion_box_uri c.args.own.now (option_map (λ x. x.now) c.args.name)) named.manifest.now named.sign.now at.all.now
+    (assertion_box_uri c.args.own.now (option_map (λ x. x.now) c.args.name)) named.manifest.now named.sign.now
+    at.all.now
     c.manifests.result.now at.place c.in-Some.place named.label.now c.index-manifests-place.result
     c.fact_at-fact.result.touched c.check_child.result at.inside (sym c.in-Some.ensures) c.if-place-store.false
     c.manifests.ensures c.index-manifests-place.is

@@ -1,6 +1,6 @@
 use Rattle.std.proofs.Common.{◌≡◌, refl, inl, inr, ◌⊎◌, Option}
 use Rattle.c2_cmd_outcome.specs.Outcome.{Outcome}
-use Rattle.c2_cmd_outcome.specs.Status.{WithoutFault}
+use Rattle.c2_cmd_outcome.specs.Status.{IfAnswered}
 use Rattle.c2_cmd_outcome.specs.declared.types.Status.{Status}
 use Rattle.c2_cmd_outcome.specs.declared.types.Status.TheVariants.{Done, Failing, Refused, NoStore, Usage, InputFault, OutputFault, JudgeFault, NoMemory, DifferentClaims, Evidence, BuildRefused, NotAccepted, StripRefused}
 use Rattle.c2_usage.specs.declared.types.Roles.{Roles}
@@ -9,7 +9,7 @@ use Rattle.c2_cmd.proofs.laws.a_run_that_nothing_fails_answers.Goals as goal
 
 -- a fault has a cause, which is one of those that are ruled out
 answers : (roles : Option Roles) (f : Faults) (expected : Outcome) (old new : RunState) (s : Status)
-    → IsCaused roles f s → NoneFailed roles f → WithoutFault (HasAnswered expected old new s) s
+    → IsCaused roles f s → NoneFailed roles f → IfAnswered (HasAnswered expected old new s) s
     → (s ≡ NoMemory) ⊎ HasAnswered expected old new s
 answers roles f expected old new Done cause none h = inr h
 answers roles f expected old new Failing cause none h = inr h

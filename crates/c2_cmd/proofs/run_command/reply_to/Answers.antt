@@ -1,8 +1,13 @@
+use Rattle.c2_cmd_collect.proofs.TheLaws.{one_collect_outcome_outcome}
+use Rattle.c2_cmd_building.proofs.TheLaws.{one_building_outcome_outcome}
+use Rattle.c2_cmd_reading.proofs.TheLaws.{one_reading_outcome_outcome}
+use Rattle.c2_cmd_front.proofs.TheLaws.{one_front_outcome_plan}
+use Rattle.c2_build_plain.proofs.RestoredLaws.{a_built_file_is_restored}
 use Rattle.std.proofs.Common.{map, ℕ, List, [], refl, sym, ap, subst, inl, inr}
 use Rattle.std.specs.Prelude.{IfOk, unwrap_or}
 use Rattle.std.proofs.lemmas.Bool.{false≢true}
 use Rattle.c2_base.specs.declared.values.Question.{Question}
-use Rattle.c2_build.specs.Building.{PlanAsks}
+use Rattle.c2_build_plain.specs.Building.{PlanAsks}
 use Rattle.c2_build_collect.specs.Answers as collect
 use Rattle.c2_build_collect.specs.Answers.{embed_effects}
 use Rattle.c2_cmd_collect.specs.Outcomes.{IsEmbedCollectOutcome, IsPlanCollectOutcome}
@@ -42,7 +47,7 @@ returns-in-Digest-clause-known g c known =
     let hash = g.H.Hashing.digest_of (digest_alg c.in-Ok.found) in
     replies_to c.in-Ok.found command.Digest c.in-Ok.ensures c.in-Digest.is
     (replies_silent (IsDigestOutcome hash) (g.A.Source.known c.args.media.now) _ _ (media_told c.in-Ok.found command.Digest c.in-Ok.ensures c.in-Digest.is refl known)
-    (c.one_reading_outcome.ensures.outcome.digest hash) (digest_unfiled hash) tt refl
+    (one_reading_outcome_outcome.digest hash) (digest_unfiled hash) tt refl
     c.reply_to_digest.ensures.media.cause
     (subst (λ alg. IfOk c.reply_to_digest.result (Replies (IsDigestOutcome (g.H.Hashing.digest_of alg))
     (g.A.Source.known c.args.media.now))) c.digest_alg.ensures c.reply_to_digest.ensures.reply))
@@ -52,7 +57,7 @@ pub returns-in-List-clause-known : goal.returns-in-List-clause-known
 returns-in-List-clause-known g c known =
     replies_to c.in-Ok.found command.List c.in-Ok.ensures c.in-List.is
     (replies_silent IsListOutcome (g.A.Source.known c.args.media.now) _ _ (media_told c.in-Ok.found command.List c.in-Ok.ensures c.in-List.is refl known)
-    c.one_reading_outcome.ensures.outcome.list list_unfiled tt refl c.reply_to_list.ensures.media.cause
+    one_reading_outcome_outcome.list list_unfiled tt refl c.reply_to_list.ensures.media.cause
     c.reply_to_list.ensures.reply)
 
 -- the reply to `show` is
@@ -60,7 +65,7 @@ pub returns-in-Show-clause-known : goal.returns-in-Show-clause-known
 returns-in-Show-clause-known g c known =
     replies_to c.in-Ok.found command.Show c.in-Ok.ensures c.in-Show.is
     (replies_silent (IsMediaOutcome IsShown) (g.A.Source.known c.args.media.now) _ _ (media_told c.in-Ok.found command.Show c.in-Ok.ensures c.in-Show.is refl known)
-    c.one_reading_outcome.ensures.outcome.show show_unfiled tt refl c.reply_to_show.ensures.media.cause
+    one_reading_outcome_outcome.show show_unfiled tt refl c.reply_to_show.ensures.media.cause
     c.reply_to_show.ensures.reply)
 
 -- the reply to `questions` is, and so are the questions
@@ -69,7 +74,7 @@ returns-in-Questions-clause-known g c known =
     let said = panel_says (map (λ j. (goal.Judge-dyn g (j.vtable, j.value)).says j.value) c.args.judges.now.items) in
     replies_to c.in-Ok.found command.Questions c.in-Ok.ensures c.in-Questions.is
     (replies_media (IsMediaOutcome (IsQuestioned said)) (λ file said. AreQuestions file) (g.A.Source.known c.args.media.now)
-    (media_told c.in-Ok.found command.Questions c.in-Ok.ensures c.in-Questions.is refl known) (c.one_reading_outcome.ensures.outcome.questions said)
+    (media_told c.in-Ok.found command.Questions c.in-Ok.ensures c.in-Questions.is refl known) (one_reading_outcome_outcome.questions said)
     (questions_unfiled said) tt c.reply_to_questions.ensures.reply c.reply_to_questions.ensures.panel)
 
 -- the reply to `validate` is, and so are the questions
@@ -79,7 +84,7 @@ returns-in-Validate-clause-known g c known =
     replies_to c.in-Ok.found command.Validate c.in-Ok.ensures c.in-Validate.is
     (replies_media (IsValidated g.H.Hashing.digest_of said) (λ file said. CheckAsks g.H.Hashing.digest_of said file)
     (g.A.Source.known c.args.media.now) (media_told c.in-Ok.found command.Validate c.in-Ok.ensures c.in-Validate.is refl known)
-    (c.one_reading_outcome.ensures.outcome.validate g.H.Hashing.digest_of said)
+    (one_reading_outcome_outcome.validate g.H.Hashing.digest_of said)
     (validate_unfiled g.H.Hashing.digest_of said) tt c.reply_to_validate.ensures.reply c.reply_to_validate.ensures.panel)
 
 -- the reply to `compare` is, behind the evidence
@@ -108,13 +113,16 @@ pub returns-in-ValidateExternal-clause-known : goal.returns-in-ValidateExternal-
 returns-in-ValidateExternal-clause-known g c known =
     let said = panel_says (map (λ j. (goal.Judge-dyn g (j.vtable, j.value)).says j.value) c.args.judges.now.items) in
     let some = media_told c.in-Ok.found command.ValidateExternal c.in-Ok.ensures c.in-ValidateExternal.is refl known in
-    let due = source_told the_second c.in-Ok.found command.ValidateExternal c.in-Ok.ensures c.in-ValidateExternal.is refl known
+    let due =
+    source_told the_second c.in-Ok.found command.ValidateExternal c.in-Ok.ensures c.in-ValidateExternal.is refl
+    known
     (λ n. held IsRefusedFile (g.A.Source.known c.args.media.now) n) in
     let a = unwrap_or (g.A.Source.known c.args.media.now) [] in
     let b = unwrap_or (g.B.Source.known c.args.second.now) [] in
     replies_to c.in-Ok.found command.ValidateExternal c.in-Ok.ensures c.in-ValidateExternal.is
     (replies_heard (IsExternalOutcome g.H.Hashing.digest_of said a b) (ExternalAsks g.H.Hashing.digest_of b a said)
-    (c.one_reading_outcome.ensures.outcome.external g.H.Hashing.digest_of said a b) (external_unfiled g.H.Hashing.digest_of said a b) tt
+    (one_reading_outcome_outcome.external g.H.Hashing.digest_of said a b)
+    (external_unfiled g.H.Hashing.digest_of said a b) tt
     (c.reply_to_validate_external.ensures.reply a (told (g.A.Source.known c.args.media.now) some) b due)
     c.reply_to_validate_external.ensures.panel
     (λ qs asks. record { file = a; is_file = told (g.A.Source.known c.args.media.now) some; store = b; is_store = due; asks = asks }))
@@ -130,8 +138,9 @@ returns-in-Plan-clause-known g c known =
     let b = unwrap_or (g.B.Source.known c.args.second.now) [] in
     replies_to c.in-Ok.found command.Plan c.in-Ok.ensures c.in-Plan.is
     (replies_heard (IsPlanOutcome g.H.Hashing.digest_of said a b) (PlanAsks g.H.Hashing.digest_of said a b)
-    (c.one_building_outcome.ensures.outcome.plan g.H.Hashing.digest_of said a b) (plan_unfiled g.H.Hashing.digest_of said a b) tt
-    (c.reply_to_plan.ensures.reply a (told (g.A.Source.known c.args.media.now) some) b due) c.reply_to_plan.ensures.panel
+    (one_building_outcome_outcome.plan g.H.Hashing.digest_of said a b) (plan_unfiled g.H.Hashing.digest_of said a b) tt
+    (c.reply_to_plan.ensures.reply a (told (g.A.Source.known c.args.media.now) some) b due)
+    c.reply_to_plan.ensures.panel
     (λ qs asks. inl (record { file = a; is_file = told (g.A.Source.known c.args.media.now) some; bytes = b; is_bytes = due; asks = asks })))
 
 -- the reply to `embed` is, its file is the outcome's, and meets what is promised of it
@@ -154,7 +163,7 @@ returns-in-Embed-clause-known g c known =
       met = λ whole built is. record {
         meets = made.meets whole built is;
         restores = λ none.
-            c.a_built_file_is_restored.ensures g.H.Hashing.digest_of said a b m built (made.meets whole built is) none;
+            a_built_file_is_restored g.H.Hashing.digest_of said a b m built (made.meets whole built is) none;
       };
       asked = λ qs asks. c.reply_to_embed.ensures.panel.asked qs
           (inl (record {
@@ -185,7 +194,7 @@ returns-in-Sample-clause-known g c known =
     let n = pieces_in c.in-Ok.found in
     replies_to c.in-Ok.found command.Sample c.in-Ok.ensures c.in-Sample.is
     (replies_heard (IsSampleOutcome g.H.Hashing.digest_of said n) (SampleAsks g.H.Hashing.digest_of said n)
-    (c.one_building_outcome.ensures.outcome.sample g.H.Hashing.digest_of said n) (sample_unfiled g.H.Hashing.digest_of said n) tt
+    (one_building_outcome_outcome.sample g.H.Hashing.digest_of said n) (sample_unfiled g.H.Hashing.digest_of said n) tt
     (subst (λ (m : ℕ). IfOk c.reply_to_sample.result
     (λ reply. IsSampleOutcome g.H.Hashing.digest_of said m (outcome_of reply))) c.unwrap_or.ensures
     c.reply_to_sample.ensures.reply) c.reply_to_sample.ensures.panel
@@ -215,8 +224,8 @@ returns-in-PlanFront-clause-known g c known =
     let b = unwrap_or (g.B.Source.known c.args.second.now) [] in
     replies_to c.in-Ok.found command.PlanFront c.in-Ok.ensures c.in-PlanFront.is
     (replies_unheard (IsPlanFrontOutcome g.H.Hashing.digest_of a b) _ _
-    (c.one_front_outcome.ensures.plan g.H.Hashing.digest_of a b) (plan_front_unfiled g.H.Hashing.digest_of a b) tt refl
-    c.reply_to_plan_front.ensures.media.cause
+    (one_front_outcome_plan g.H.Hashing.digest_of a b) (plan_front_unfiled g.H.Hashing.digest_of a b) tt refl
+    c.reply_to_plan_front.ensures.sources.media.cause
     (c.reply_to_plan_front.ensures.reply a (told (g.A.Source.known c.args.media.now) some) b due))
 
 -- the reply to `embed-front` is, its file is the outcome's, and meets what is promised of it
@@ -233,7 +242,7 @@ returns-in-EmbedFront-clause-known g c known =
     let made = c.reply_to_embed_front.ensures.made a (told (g.A.Source.known c.args.media.now) some) b due m due_too in
     replies_to c.in-Ok.found command.EmbedFront c.in-Ok.ensures c.in-EmbedFront.is
     (replies_filed (IsEmbedFrontOutcome g.H.Hashing.digest_of a b m) _ _ made.made made.meets refl
-    c.reply_to_embed_front.ensures.media.cause)
+    c.reply_to_embed_front.ensures.sources.media.cause)
 
 -- the reply to `plan-collect` is
 pub returns-in-PlanCollect-clause-known : goal.returns-in-PlanCollect-clause-known
@@ -242,15 +251,18 @@ returns-in-PlanCollect-clause-known g c known =
     let some = media_told c.in-Ok.found command.PlanCollect c.in-Ok.ensures c.in-PlanCollect.is refl known in
     let due = source_told the_second c.in-Ok.found command.PlanCollect c.in-Ok.ensures c.in-PlanCollect.is refl known
     (λ n. held IsMediaRefused (g.A.Source.known c.args.media.now) n) in
-    let due_too = source_told the_fourth c.in-Ok.found command.PlanCollect c.in-Ok.ensures c.in-PlanCollect.is refl known
+    let due_too =
+    source_told the_fourth c.in-Ok.found command.PlanCollect c.in-Ok.ensures c.in-PlanCollect.is refl known
     (λ n. message_due (collect.IsNotAccepted g.H.Hashing.digest_of said) IsDefinitionRefused (g.A.Source.known c.args.media.now) (g.B.Source.known c.args.second.now) n) in
     let a = unwrap_or (g.A.Source.known c.args.media.now) [] in
     let b = unwrap_or (g.B.Source.known c.args.second.now) [] in
     let o = unwrap_or (g.D.Source.known c.args.fourth.now) [] in
     replies_to c.in-Ok.found command.PlanCollect c.in-Ok.ensures c.in-PlanCollect.is
     (replies_heard (IsPlanCollectOutcome g.H.Hashing.digest_of said a b o) (CollectPlanAsks g.H.Hashing.digest_of said a b o)
-    (c.one_collect_outcome.ensures.outcome.plan g.H.Hashing.digest_of said a b o) (plan_collect_unfiled g.H.Hashing.digest_of said a b o) tt
-    (c.reply_to_plan_collect.ensures.reply a (told (g.A.Source.known c.args.media.now) some) b due o due_too) c.reply_to_plan_collect.ensures.panel
+    (one_collect_outcome_outcome.plan g.H.Hashing.digest_of said a b o)
+    (plan_collect_unfiled g.H.Hashing.digest_of said a b o) tt
+    (c.reply_to_plan_collect.ensures.reply a (told (g.A.Source.known c.args.media.now) some) b due o due_too)
+    c.reply_to_plan_collect.ensures.panel
     (λ qs asks. inl (record {
       file = a;
       is_file = told (g.A.Source.known c.args.media.now) some;
@@ -268,16 +280,20 @@ returns-in-EmbedCollect-clause-known g c known =
     let some = media_told c.in-Ok.found command.EmbedCollect c.in-Ok.ensures c.in-EmbedCollect.is refl known in
     let due = source_told the_second c.in-Ok.found command.EmbedCollect c.in-Ok.ensures c.in-EmbedCollect.is refl known
     (λ n. held IsMediaRefused (g.A.Source.known c.args.media.now) n) in
-    let due_too = source_told the_third c.in-Ok.found command.EmbedCollect c.in-Ok.ensures c.in-EmbedCollect.is refl known
+    let due_too =
+    source_told the_third c.in-Ok.found command.EmbedCollect c.in-Ok.ensures c.in-EmbedCollect.is refl known
     (λ n. message_due IsMediaRefused IsDefinitionRefused (g.A.Source.known c.args.media.now) (g.B.Source.known c.args.second.now) n) in
-    let due_last = source_told the_fourth c.in-Ok.found command.EmbedCollect c.in-Ok.ensures c.in-EmbedCollect.is refl known
+    let due_last =
+    source_told the_fourth c.in-Ok.found command.EmbedCollect c.in-Ok.ensures c.in-EmbedCollect.is refl known
     (λ n. other_due (collect.IsNotAccepted g.H.Hashing.digest_of said) IsDefinitionRefused (g.A.Source.known c.args.media.now) (g.B.Source.known c.args.second.now)
     (g.C.Source.known c.args.third.now) n) in
     let a = unwrap_or (g.A.Source.known c.args.media.now) [] in
     let b = unwrap_or (g.B.Source.known c.args.second.now) [] in
     let m = unwrap_or (g.C.Source.known c.args.third.now) [] in
     let o = unwrap_or (g.D.Source.known c.args.fourth.now) [] in
-    let made = c.reply_to_embed_collect.ensures.made a (told (g.A.Source.known c.args.media.now) some) b due m due_too o due_last in
+    let made =
+    c.reply_to_embed_collect.ensures.made a (told (g.A.Source.known c.args.media.now) some) b due m due_too o
+    due_last in
     let asked : (qs : List Question) → CollectAsks g.H.Hashing.digest_of said a b m o qs
     → collect.AsksEmbedded g.H.Hashing.digest_of (g.A.Source.known c.args.media.now) (g.B.Source.known c.args.second.now) (g.C.Source.known c.args.third.now)
     (g.D.Source.known c.args.fourth.now) said qs
@@ -294,7 +310,9 @@ returns-in-EmbedCollect-clause-known g c known =
     }) in
     replies_to c.in-Ok.found command.EmbedCollect c.in-Ok.ensures c.in-EmbedCollect.is
     (record {
-      reply = begins_filed (IsEmbedCollectOutcome g.H.Hashing.digest_of said a b m o) _ c.reply_to_embed_collect.result made.made.stands;
+      reply =
+          begins_filed (IsEmbedCollectOutcome g.H.Hashing.digest_of said a b m o) _ c.reply_to_embed_collect.result
+          made.made.stands;
       file = made.made.takes;
       met = made.meets;
       asked = λ qs asks. c.reply_to_embed_collect.ensures.panel.asked qs (asked qs asks);
@@ -353,28 +371,31 @@ pub returns-in-Compare-clause-cause : goal.returns-in-Compare-clause-cause
 returns-in-Compare-clause-cause g c =
     caused_compare c.reply_to_compare.result c.in-Ok.found command.Compare c.in-Ok.ensures c.in-Compare.is
     refl refl refl
-    c.reply_to_compare.ensures.words c.reply_to_compare.ensures.media.cause c.reply_to_compare.ensures.report.cause c.reply_to_compare.ensures.panel.cause
+    c.reply_to_compare.ensures.words c.reply_to_compare.ensures.media.cause
+    c.reply_to_compare.ensures.report.writes.cause c.reply_to_compare.ensures.panel.cause
 
 -- `plan`
 pub returns-in-Plan-clause-cause : goal.returns-in-Plan-clause-cause
 returns-in-Plan-clause-cause g c =
     caused_reading c.reply_to_plan.result c.in-Ok.found command.Plan c.in-Ok.ensures c.in-Plan.is
     refl refl refl
-    c.reply_to_plan.ensures.words c.reply_to_plan.ensures.media.cause c.reply_to_plan.ensures.panel.cause
+    c.reply_to_plan.ensures.words c.reply_to_plan.ensures.sources.media.cause c.reply_to_plan.ensures.panel.cause
 
 -- `validate-external`
 pub returns-in-ValidateExternal-clause-cause : goal.returns-in-ValidateExternal-clause-cause
 returns-in-ValidateExternal-clause-cause g c =
     caused_reading c.reply_to_validate_external.result c.in-Ok.found command.ValidateExternal c.in-Ok.ensures c.in-ValidateExternal.is
     refl refl refl
-    c.reply_to_validate_external.ensures.words c.reply_to_validate_external.ensures.media.cause c.reply_to_validate_external.ensures.panel.cause
+    c.reply_to_validate_external.ensures.words c.reply_to_validate_external.ensures.media.cause
+    c.reply_to_validate_external.ensures.panel.cause
 
 -- `embed`
 pub returns-in-Embed-clause-cause : goal.returns-in-Embed-clause-cause
 returns-in-Embed-clause-cause g c =
     caused_embed c.reply_to_embed.result c.in-Ok.found command.Embed c.in-Ok.ensures c.in-Embed.is
     refl refl refl refl refl
-    c.reply_to_embed.ensures.words c.reply_to_embed.ensures.media.cause c.reply_to_embed.ensures.out.writes.cause c.reply_to_embed.ensures.panel.cause
+    c.reply_to_embed.ensures.words c.reply_to_embed.ensures.sources.media.cause
+    c.reply_to_embed.ensures.out.writes.cause c.reply_to_embed.ensures.panel.cause
 
 -- `sample`
 pub returns-in-Sample-clause-cause : goal.returns-in-Sample-clause-cause
@@ -402,14 +423,15 @@ pub returns-in-PlanFront-clause-cause : goal.returns-in-PlanFront-clause-cause
 returns-in-PlanFront-clause-cause g c =
     caused_sources c.reply_to_plan_front.result c.in-Ok.found command.PlanFront c.in-Ok.ensures c.in-PlanFront.is
     refl refl
-    c.reply_to_plan_front.ensures.words c.reply_to_plan_front.ensures.media.cause
+    c.reply_to_plan_front.ensures.words c.reply_to_plan_front.ensures.sources.media.cause
 
 -- `embed-front`
 pub returns-in-EmbedFront-clause-cause : goal.returns-in-EmbedFront-clause-cause
 returns-in-EmbedFront-clause-cause g c =
     caused_writing c.reply_to_embed_front.result c.in-Ok.found command.EmbedFront c.in-Ok.ensures c.in-EmbedFront.is
     refl refl refl refl
-    c.reply_to_embed_front.ensures.words c.reply_to_embed_front.ensures.media.cause c.reply_to_embed_front.ensures.out.writes.cause
+    c.reply_to_embed_front.ensures.words c.reply_to_embed_front.ensures.sources.media.cause
+    c.reply_to_embed_front.ensures.out.writes.cause
 
 -- `plan-collect`
 pub returns-in-PlanCollect-clause-cause : goal.returns-in-PlanCollect-clause-cause
@@ -417,7 +439,7 @@ returns-in-PlanCollect-clause-cause g c =
     caused_collecting c.reply_to_plan_collect.result c.in-Ok.found command.PlanCollect c.in-Ok.ensures c.in-PlanCollect.is
     refl refl refl refl
     (built_words (IsRefusedBy ground_effects) tbs_outcome c.reply_to_plan_collect.result (λ bytes. refl) c.reply_to_plan_collect.ensures.within)
-    c.reply_to_plan_collect.ensures.media.cause c.reply_to_plan_collect.ensures.panel.cause
+    c.reply_to_plan_collect.ensures.sources.media.cause c.reply_to_plan_collect.ensures.panel.cause
 
 -- `embed-collect`
 pub returns-in-EmbedCollect-clause-cause : goal.returns-in-EmbedCollect-clause-cause
@@ -425,7 +447,8 @@ returns-in-EmbedCollect-clause-cause g c =
     caused_collected c.reply_to_embed_collect.result c.in-Ok.found command.EmbedCollect c.in-Ok.ensures c.in-EmbedCollect.is
     refl refl refl refl refl refl
     (built_words (IsRefusedBy embed_effects) embedded_outcome c.reply_to_embed_collect.result (λ range. refl) c.reply_to_embed_collect.ensures.ends.within)
-    c.reply_to_embed_collect.ensures.media.cause c.reply_to_embed_collect.ensures.ends.out.writes.cause c.reply_to_embed_collect.ensures.panel.cause
+    c.reply_to_embed_collect.ensures.sources.media.cause c.reply_to_embed_collect.ensures.ends.out.writes.cause
+    c.reply_to_embed_collect.ensures.panel.cause
 
 -- words that fit no command
 pub returns-in-Err-Usage-clause-cause : goal.returns-in-Err-Usage-clause-cause
@@ -493,7 +516,9 @@ pub returns-in-Embed-clause-unused : goal.returns-in-Embed-clause-unused
 returns-in-Embed-clause-unused g c =
     unused_by c.in-Ok.found command.Embed c.in-Ok.ensures c.in-Embed.is (inl refl)
     (record {
-      second = undue (left_where_known IsMediaRefused (g.A.Source.known c.args.media.now) _ c.reply_to_embed.ensures.not_due.definition_unread);
+      second =
+          undue
+          (left_where_known IsMediaRefused (g.A.Source.known c.args.media.now) _ c.reply_to_embed.ensures.not_due.definition_unread);
       third = undue (message_left IsMediaRefused IsDefinitionRefused (g.A.Source.known c.args.media.now) (g.B.Source.known c.args.second.now) _
           c.reply_to_embed.ensures.not_due.message_unread_first c.reply_to_embed.ensures.not_due.message_unread);
       fourth = λ un. refl;
@@ -530,7 +555,9 @@ pub returns-in-EmbedFront-clause-unused : goal.returns-in-EmbedFront-clause-unus
 returns-in-EmbedFront-clause-unused g c =
     unused_by c.in-Ok.found command.EmbedFront c.in-Ok.ensures c.in-EmbedFront.is (inl refl)
     (record {
-      second = undue (left_where_known IsMediaRefused (g.A.Source.known c.args.media.now) _ c.reply_to_embed_front.ensures.not_due.definition_unread);
+      second =
+          undue
+          (left_where_known IsMediaRefused (g.A.Source.known c.args.media.now) _ c.reply_to_embed_front.ensures.not_due.definition_unread);
       third = undue (message_left IsMediaRefused IsDefinitionRefused (g.A.Source.known c.args.media.now) (g.B.Source.known c.args.second.now) _
           c.reply_to_embed_front.ensures.not_due.message_unread_first c.reply_to_embed_front.ensures.not_due.message_unread);
       fourth = λ un. refl;
@@ -544,7 +571,9 @@ returns-in-PlanCollect-clause-unused g c =
     let said = panel_says (map (λ j. (goal.Judge-dyn g (j.vtable, j.value)).says j.value) c.args.judges.now.items) in
     unused_by c.in-Ok.found command.PlanCollect c.in-Ok.ensures c.in-PlanCollect.is (inl refl)
     (record {
-      second = undue (left_where_known IsMediaRefused (g.A.Source.known c.args.media.now) _ c.reply_to_plan_collect.ensures.not_due.definition_unread);
+      second =
+          undue
+          (left_where_known IsMediaRefused (g.A.Source.known c.args.media.now) _ c.reply_to_plan_collect.ensures.not_due.definition_unread);
       third = λ un. refl;
       fourth = undue (message_left (collect.IsNotAccepted g.H.Hashing.digest_of said) IsDefinitionRefused (g.A.Source.known c.args.media.now) (g.B.Source.known c.args.second.now) _
           c.reply_to_plan_collect.ensures.not_due.other_unread_first c.reply_to_plan_collect.ensures.not_due.other_unread);
@@ -558,7 +587,9 @@ returns-in-EmbedCollect-clause-unused g c =
     let said = panel_says (map (λ j. (goal.Judge-dyn g (j.vtable, j.value)).says j.value) c.args.judges.now.items) in
     unused_by c.in-Ok.found command.EmbedCollect c.in-Ok.ensures c.in-EmbedCollect.is (inl refl)
     (record {
-      second = undue (left_where_known IsMediaRefused (g.A.Source.known c.args.media.now) _ c.reply_to_embed_collect.ensures.not_due.inputs.definition_unread);
+      second =
+          undue
+          (left_where_known IsMediaRefused (g.A.Source.known c.args.media.now) _ c.reply_to_embed_collect.ensures.not_due.inputs.definition_unread);
       third = undue (message_left IsMediaRefused IsDefinitionRefused (g.A.Source.known c.args.media.now) (g.B.Source.known c.args.second.now) _
           c.reply_to_embed_collect.ensures.not_due.inputs.message_unread_first c.reply_to_embed_collect.ensures.not_due.inputs.message_unread);
       fourth = undue (other_left (collect.IsNotAccepted g.H.Hashing.digest_of said) IsDefinitionRefused (g.A.Source.known c.args.media.now) (g.B.Source.known c.args.second.now)
@@ -603,52 +634,65 @@ returns-in-EmbedCollect-clause-out g c =
 -- the report of `compare`
 pub returns-in-Compare-clause-report : goal.returns-in-Compare-clause-report
 returns-in-Compare-clause-report g c =
-    begun_report _ _ _ _ _ _ _ c.reply_to_compare.result c.reply_to_compare.ensures.report
-    c.reply_to_compare.ensures.judged (early_by _ c.in-Ok.found command.Compare c.in-Ok.ensures c.in-Compare.is refl)
+    begun_report _ _ _ _ _ _ _ c.reply_to_compare.result c.reply_to_compare.ensures.report.writes
+    c.reply_to_compare.ensures.report.judged (early_by _ c.in-Ok.found command.Compare c.in-Ok.ensures c.in-Compare.is refl)
 
 -- `digest` writes no file
 pub returns-in-Digest-clause-out : goal.returns-in-Digest-clause-out
-returns-in-Digest-clause-out g c = idle_out _ _ _ _ _ _ (unnamed_by is_out _ c.in-Ok.found command.Digest c.in-Ok.ensures c.in-Digest.is refl)
+returns-in-Digest-clause-out g c =
+    idle_out _ _ _ _ _ _ (unnamed_by is_out _ c.in-Ok.found command.Digest c.in-Ok.ensures c.in-Digest.is refl)
 
 -- `list` writes no file
 pub returns-in-List-clause-out : goal.returns-in-List-clause-out
-returns-in-List-clause-out g c = idle_out _ _ _ _ _ _ (unnamed_by is_out _ c.in-Ok.found command.List c.in-Ok.ensures c.in-List.is refl)
+returns-in-List-clause-out g c =
+    idle_out _ _ _ _ _ _ (unnamed_by is_out _ c.in-Ok.found command.List c.in-Ok.ensures c.in-List.is refl)
 
 -- `show` writes no file
 pub returns-in-Show-clause-out : goal.returns-in-Show-clause-out
-returns-in-Show-clause-out g c = idle_out _ _ _ _ _ _ (unnamed_by is_out _ c.in-Ok.found command.Show c.in-Ok.ensures c.in-Show.is refl)
+returns-in-Show-clause-out g c =
+    idle_out _ _ _ _ _ _ (unnamed_by is_out _ c.in-Ok.found command.Show c.in-Ok.ensures c.in-Show.is refl)
 
 -- `questions` writes no file
 pub returns-in-Questions-clause-out : goal.returns-in-Questions-clause-out
-returns-in-Questions-clause-out g c = idle_out _ _ _ _ _ _ (unnamed_by is_out _ c.in-Ok.found command.Questions c.in-Ok.ensures c.in-Questions.is refl)
+returns-in-Questions-clause-out g c =
+    idle_out _ _ _ _ _ _ (unnamed_by is_out _ c.in-Ok.found command.Questions c.in-Ok.ensures c.in-Questions.is refl)
 
 -- `validate` writes no file
 pub returns-in-Validate-clause-out : goal.returns-in-Validate-clause-out
-returns-in-Validate-clause-out g c = idle_out _ _ _ _ _ _ (unnamed_by is_out _ c.in-Ok.found command.Validate c.in-Ok.ensures c.in-Validate.is refl)
+returns-in-Validate-clause-out g c =
+    idle_out _ _ _ _ _ _ (unnamed_by is_out _ c.in-Ok.found command.Validate c.in-Ok.ensures c.in-Validate.is refl)
 
 -- `compare` writes no file
 pub returns-in-Compare-clause-out : goal.returns-in-Compare-clause-out
-returns-in-Compare-clause-out g c = idle_out _ _ _ _ _ _ (unnamed_by is_out _ c.in-Ok.found command.Compare c.in-Ok.ensures c.in-Compare.is refl)
+returns-in-Compare-clause-out g c =
+    idle_out _ _ _ _ _ _ (unnamed_by is_out _ c.in-Ok.found command.Compare c.in-Ok.ensures c.in-Compare.is refl)
 
 -- `plan` writes no file
 pub returns-in-Plan-clause-out : goal.returns-in-Plan-clause-out
-returns-in-Plan-clause-out g c = idle_out _ _ _ _ _ _ (unnamed_by is_out _ c.in-Ok.found command.Plan c.in-Ok.ensures c.in-Plan.is refl)
+returns-in-Plan-clause-out g c =
+    idle_out _ _ _ _ _ _ (unnamed_by is_out _ c.in-Ok.found command.Plan c.in-Ok.ensures c.in-Plan.is refl)
 
 -- `validate-external` writes no file
 pub returns-in-ValidateExternal-clause-out : goal.returns-in-ValidateExternal-clause-out
-returns-in-ValidateExternal-clause-out g c = idle_out _ _ _ _ _ _ (unnamed_by is_out _ c.in-Ok.found command.ValidateExternal c.in-Ok.ensures c.in-ValidateExternal.is refl)
+returns-in-ValidateExternal-clause-out g c =
+    idle_out _ _ _ _ _ _
+    (unnamed_by is_out _ c.in-Ok.found command.ValidateExternal c.in-Ok.ensures c.in-ValidateExternal.is refl)
 
 -- `sample` writes no file
 pub returns-in-Sample-clause-out : goal.returns-in-Sample-clause-out
-returns-in-Sample-clause-out g c = idle_out _ _ _ _ _ _ (unnamed_by is_out _ c.in-Ok.found command.Sample c.in-Ok.ensures c.in-Sample.is refl)
+returns-in-Sample-clause-out g c =
+    idle_out _ _ _ _ _ _ (unnamed_by is_out _ c.in-Ok.found command.Sample c.in-Ok.ensures c.in-Sample.is refl)
 
 -- `plan-front` writes no file
 pub returns-in-PlanFront-clause-out : goal.returns-in-PlanFront-clause-out
-returns-in-PlanFront-clause-out g c = idle_out _ _ _ _ _ _ (unnamed_by is_out _ c.in-Ok.found command.PlanFront c.in-Ok.ensures c.in-PlanFront.is refl)
+returns-in-PlanFront-clause-out g c =
+    idle_out _ _ _ _ _ _ (unnamed_by is_out _ c.in-Ok.found command.PlanFront c.in-Ok.ensures c.in-PlanFront.is refl)
 
 -- `plan-collect` writes no file
 pub returns-in-PlanCollect-clause-out : goal.returns-in-PlanCollect-clause-out
-returns-in-PlanCollect-clause-out g c = idle_out _ _ _ _ _ _ (unnamed_by is_out _ c.in-Ok.found command.PlanCollect c.in-Ok.ensures c.in-PlanCollect.is refl)
+returns-in-PlanCollect-clause-out g c =
+    idle_out _ _ _ _ _ _
+    (unnamed_by is_out _ c.in-Ok.found command.PlanCollect c.in-Ok.ensures c.in-PlanCollect.is refl)
 
 -- nor do words that fit no command
 pub returns-in-Err-Usage-clause-out : goal.returns-in-Err-Usage-clause-out

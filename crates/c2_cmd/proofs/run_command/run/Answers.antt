@@ -1,61 +1,25 @@
 use Rattle.std.proofs.Common.{◌∙◌, ap, sym, inl, inr, refl, subst, take, string_bytes, arith}
 use Rattle.std.specs.Prelude.{Err}
 use Rattle.c2_base.proofs.Growing.{grows_then}
-use Rattle.c2_cmd_outcome.specs.Reply.{end_of}
 use Rattle.c2_cmd_outcome.specs.Status.{HasNoReply}
 use Rattle.c2_cmd_outcome.specs.Left.{state_of}
-use Rattle.c2_cmd_outcome.specs.declared.reply.Fault.{Fault}
 use Rattle.c2_cmd_outcome.specs.declared.types.Status.TheVariants.{JudgeFault}
 use Rattle.c2_cmd.proofs.Delivering.{behind_answered, behind_left, no_end, no_fault}
-use Rattle.c2_cmd.proofs.Keeping.{kept_out, without}
-use Rattle.c2_cmd.proofs.Ending.{cause_told, cause_untold, ends_known, file_untold, rose_since, runs_answered, runs_input, runs_judge, runs_memory, runs_output, runs_untold, without_fault}
+use Rattle.c2_cmd.proofs.Keeping.{kept_out, kept_panel, kept_report, kept_source, without}
+use Rattle.c2_cmd.proofs.Ending.{cause_failed, cause_told, cause_untold, ends_known, file_untold, rose_since, runs_answered, runs_failed, runs_untold, without_fault}
 use Rattle.c2_cmd.proofs.run_command.run.Goals as goal
 
 -- ---- where the sources are known
 
--- where a source failed
-pub returns-in-Err-Input-clause-known : goal.returns-in-Err-Input-clause-known
-returns-in-Err-Input-clause-known g c known =
-    let replies = c.in-Err-Input.ensures.known known in
+-- without a reply
+pub returns-in-Err-clause-known : goal.returns-in-Err-clause-known
+returns-in-Err-clause-known g c known =
     ends_known c.each_run_has_an_outcome.ensures.outcome (g.met.A.Source.known_bytes c.args.media.now)
     (g.met.B.Source.known_bytes c.args.second.now) (g.met.C.Source.known_bytes c.args.third.now)
     (g.met.D.Source.known_bytes c.args.fourth.now) g.met.H.Hashing.is_digest
-    (λ e comes. runs_input (λ whole. ap (λ w. state_of g.W.Sink.written g.W.Sink.finished w)
-    (c.in-Err-Input.ensures.report.unwritten whole)) e comes (rw c.in-Err-Input.field-0-is at replies)
-    c.in-Err-Input.ensures.report.unfinished)
-
--- where a sink failed before the reply
-pub returns-in-Err-Output-clause-known : goal.returns-in-Err-Output-clause-known
-returns-in-Err-Output-clause-known g c known =
-    let replies = c.in-Err-Output.ensures.known known in
-    ends_known c.each_run_has_an_outcome.ensures.outcome (g.met.A.Source.known_bytes c.args.media.now)
-    (g.met.B.Source.known_bytes c.args.second.now) (g.met.C.Source.known_bytes c.args.third.now)
-    (g.met.D.Source.known_bytes c.args.fourth.now) g.met.H.Hashing.is_digest
-    (λ e comes. runs_output (λ whole. ap (λ w. state_of g.W.Sink.written g.W.Sink.finished w)
-    (c.in-Err-Output.ensures.report.unwritten whole)) e comes (rw c.in-Err-Output.field-0-is at replies)
-    c.in-Err-Output.ensures.report.unfinished)
-
--- where a judge failed
-pub returns-in-Err-Judge-clause-known : goal.returns-in-Err-Judge-clause-known
-returns-in-Err-Judge-clause-known g c known =
-    let replies = c.in-Err-Judge.ensures.known known in
-    ends_known c.each_run_has_an_outcome.ensures.outcome (g.met.A.Source.known_bytes c.args.media.now)
-    (g.met.B.Source.known_bytes c.args.second.now) (g.met.C.Source.known_bytes c.args.third.now)
-    (g.met.D.Source.known_bytes c.args.fourth.now) g.met.H.Hashing.is_digest
-    (λ e comes. runs_judge (λ whole. ap (λ w. state_of g.W.Sink.written g.W.Sink.finished w)
-    (c.in-Err-Judge.ensures.report.unwritten whole)) e comes (rw c.in-Err-Judge.field-0-is at replies)
-    c.in-Err-Judge.ensures.report.unfinished)
-
--- where memory ran out
-pub returns-in-Err-Memory-clause-known : goal.returns-in-Err-Memory-clause-known
-returns-in-Err-Memory-clause-known g c known =
-    let replies = c.in-Err-Memory.ensures.known known in
-    ends_known c.each_run_has_an_outcome.ensures.outcome (g.met.A.Source.known_bytes c.args.media.now)
-    (g.met.B.Source.known_bytes c.args.second.now) (g.met.C.Source.known_bytes c.args.third.now)
-    (g.met.D.Source.known_bytes c.args.fourth.now) g.met.H.Hashing.is_digest
-    (λ e comes. runs_memory (λ whole. ap (λ w. state_of g.W.Sink.written g.W.Sink.finished w)
-    (c.in-Err-Memory.ensures.report.unwritten whole)) e comes (rw c.in-Err-Memory.field-0-is at replies)
-    c.in-Err-Memory.ensures.report.unfinished)
+    (runs_failed c.in-Err.fault c.fault_status.ensures
+    (λ whole. ap (λ w. state_of g.W.Sink.written g.W.Sink.finished w) (c.in-Err.ensures.report.unwritten whole))
+    (c.in-Err.ensures.known known) c.in-Err.ensures.report.unfinished)
 
 -- once the reply is delivered
 pub returns-in-Ok-deliver-clause-known : goal.returns-in-Ok-deliver-clause-known
@@ -73,25 +37,13 @@ returns-clause-known g c known =
     (g.met.B.Source.known_bytes c.args.second.now) (g.met.C.Source.known_bytes c.args.third.now)
     (g.met.D.Source.known_bytes c.args.fourth.now) g.met.H.Hashing.is_digest
     (runs_untold c.in-Ok.reply _ _ _ (c.in-Ok.ensures.known known) c.deliver.ensures.prefix
-    (c.in-Err.ensures.unfinished ∙ c.in-Ok.ensures.report.unfinished))
+    (c.in-Err-deliver.ensures.unfinished ∙ c.in-Ok.ensures.report.unfinished))
 
 -- ---- whose fault it is
 
--- where a source failed
-pub returns-in-Err-Input-clause-cause : goal.returns-in-Err-Input-clause-cause
-returns-in-Err-Input-clause-cause g c = let cause = c.in-Err-Input.ensures.cause in rw c.in-Err-Input.field-0-is at cause
-
--- where a sink failed before the reply
-pub returns-in-Err-Output-clause-cause : goal.returns-in-Err-Output-clause-cause
-returns-in-Err-Output-clause-cause g c = let cause = c.in-Err-Output.ensures.cause in rw c.in-Err-Output.field-0-is at cause
-
--- where a judge failed
-pub returns-in-Err-Judge-clause-cause : goal.returns-in-Err-Judge-clause-cause
-returns-in-Err-Judge-clause-cause g c = let cause = c.in-Err-Judge.ensures.cause in rw c.in-Err-Judge.field-0-is at cause
-
--- where memory ran out
-pub returns-in-Err-Memory-clause-cause : goal.returns-in-Err-Memory-clause-cause
-returns-in-Err-Memory-clause-cause g c = let cause = c.in-Err-Memory.ensures.cause in rw c.in-Err-Memory.field-0-is at cause
+-- without a reply
+pub returns-in-Err-clause-cause : goal.returns-in-Err-clause-cause
+returns-in-Err-clause-cause g c = cause_failed c.fault_status.ensures c.in-Err.ensures.cause
 
 -- once the reply is delivered
 pub returns-in-Ok-deliver-clause-cause : goal.returns-in-Ok-deliver-clause-cause
@@ -100,79 +52,40 @@ returns-in-Ok-deliver-clause-cause g c = cause_told c.in-Ok.reply c.status.ensur
 -- where the report fails under it
 pub returns-clause-cause : goal.returns-clause-cause
 returns-clause-cause g c =
-    cause_untold (inl (refl, rose_since _ _ _ c.in-Ok.ensures.report.quiet c.in-Err.ensures.cause.failed))
+    cause_untold (inl (refl, rose_since _ _ _ c.in-Ok.ensures.report.quiet c.in-Err-deliver.ensures.cause.failed))
 
 -- ---- what is left
 
--- where a source failed
-pub returns-in-Err-Input-clause-out : goal.returns-in-Err-Input-clause-out
-returns-in-Err-Input-clause-out g c =
-    kept_out (ap (λ (f : Fault). end_of (Err f)) c.in-Err-Input.field-0-is) c.in-Err-Input.ensures.out c.in-Err-Input.ensures.unused.out
-
-pub returns-in-Err-Input-clause-report : goal.returns-in-Err-Input-clause-report
-returns-in-Err-Input-clause-report g c = record {
-  later = c.in-Err-Input.ensures.report.later;
-  quiet = tt;
-  grows = c.in-Err-Input.ensures.report.grows;
-  is_finished = tt;
-  unfinished = c.in-Err-Input.ensures.report.unfinished;
-  unwritten = λ whole none. c.in-Err-Input.ensures.report.unwritten whole;
-  judged = λ same. absurd (cc (same));
-  behind = behind_left _ _ _ _ c.in-Err-Input.ensures.report.unwritten c.in-Err-Input.ensures.unused.out;
+-- without a reply
+pub returns-in-Err-clause-sources : goal.returns-in-Err-clause-sources
+returns-in-Err-clause-sources g c = record {
+  media = kept_source (sym c.fault_status.ensures) c.in-Err.ensures.media;
+  second = kept_source (sym c.fault_status.ensures) c.in-Err.ensures.second;
+  third = kept_source (sym c.fault_status.ensures) c.in-Err.ensures.third;
+  fourth = kept_source (sym c.fault_status.ensures) c.in-Err.ensures.fourth;
 }
 
--- where a sink failed before the reply
-pub returns-in-Err-Output-clause-out : goal.returns-in-Err-Output-clause-out
-returns-in-Err-Output-clause-out g c =
-    kept_out (ap (λ (f : Fault). end_of (Err f)) c.in-Err-Output.field-0-is) c.in-Err-Output.ensures.out c.in-Err-Output.ensures.unused.out
+pub returns-in-Err-clause-out : goal.returns-in-Err-clause-out
+returns-in-Err-clause-out g c =
+    kept_out (sym c.fault_status.ensures) c.in-Err.ensures.out c.in-Err.ensures.unused.out
 
-pub returns-in-Err-Output-clause-report : goal.returns-in-Err-Output-clause-report
-returns-in-Err-Output-clause-report g c = record {
-  later = c.in-Err-Output.ensures.report.later;
-  quiet = tt;
-  grows = c.in-Err-Output.ensures.report.grows;
-  is_finished = tt;
-  unfinished = c.in-Err-Output.ensures.report.unfinished;
-  unwritten = λ whole none. absurd none;
-  judged = λ same. absurd (cc (same));
-  behind = behind_left _ _ _ _ c.in-Err-Output.ensures.report.unwritten c.in-Err-Output.ensures.unused.out;
-}
+pub returns-in-Err-clause-report : goal.returns-in-Err-clause-report
+returns-in-Err-clause-report g c =
+    kept_report c.in-Err.fault c.fault_status.ensures c.in-Err.ensures.report
+    (behind_left _ _ _ _ c.in-Err.ensures.report.unwritten c.in-Err.ensures.unused.out)
 
--- where a judge failed
-pub returns-in-Err-Judge-clause-out : goal.returns-in-Err-Judge-clause-out
-returns-in-Err-Judge-clause-out g c =
-    kept_out (ap (λ (f : Fault). end_of (Err f)) c.in-Err-Judge.field-0-is) c.in-Err-Judge.ensures.out c.in-Err-Judge.ensures.unused.out
-
-pub returns-in-Err-Judge-clause-report : goal.returns-in-Err-Judge-clause-report
-returns-in-Err-Judge-clause-report g c = record {
-  later = c.in-Err-Judge.ensures.report.later;
-  quiet = tt;
-  grows = c.in-Err-Judge.ensures.report.grows;
-  is_finished = tt;
-  unfinished = c.in-Err-Judge.ensures.report.unfinished;
-  unwritten = λ whole none. c.in-Err-Judge.ensures.report.unwritten whole;
-  judged = λ same. c.in-Err-Judge.ensures.report.judged c.in-Err-Judge.field-0-is;
-  behind = behind_left _ _ _ _ c.in-Err-Judge.ensures.report.unwritten c.in-Err-Judge.ensures.unused.out;
-}
-
--- where memory ran out
-pub returns-in-Err-Memory-clause-out : goal.returns-in-Err-Memory-clause-out
-returns-in-Err-Memory-clause-out g c =
-    kept_out (ap (λ (f : Fault). end_of (Err f)) c.in-Err-Memory.field-0-is) c.in-Err-Memory.ensures.out c.in-Err-Memory.ensures.unused.out
-
-pub returns-in-Err-Memory-clause-report : goal.returns-in-Err-Memory-clause-report
-returns-in-Err-Memory-clause-report g c = record {
-  later = c.in-Err-Memory.ensures.report.later;
-  quiet = tt;
-  grows = c.in-Err-Memory.ensures.report.grows;
-  is_finished = tt;
-  unfinished = c.in-Err-Memory.ensures.report.unfinished;
-  unwritten = λ whole none. c.in-Err-Memory.ensures.report.unwritten whole;
-  judged = λ same. absurd (cc (same));
-  behind = behind_left _ _ _ _ c.in-Err-Memory.ensures.report.unwritten c.in-Err-Memory.ensures.unused.out;
-}
+pub returns-in-Err-clause-judges : goal.returns-in-Err-clause-judges
+returns-in-Err-clause-judges g c = kept_panel (sym c.fault_status.ensures) c.in-Err.ensures.judges
 
 -- once the reply is delivered
+pub returns-in-Ok-deliver-clause-sources : goal.returns-in-Ok-deliver-clause-sources
+returns-in-Ok-deliver-clause-sources g c = record {
+  media = kept_source (sym c.status.ensures) c.in-Ok.ensures.media;
+  second = kept_source (sym c.status.ensures) c.in-Ok.ensures.second;
+  third = kept_source (sym c.status.ensures) c.in-Ok.ensures.third;
+  fourth = kept_source (sym c.status.ensures) c.in-Ok.ensures.fourth;
+}
+
 pub returns-in-Ok-deliver-clause-out : goal.returns-in-Ok-deliver-clause-out
 returns-in-Ok-deliver-clause-out g c =
     kept_out (sym c.status.ensures) c.in-Ok.ensures.out c.in-Ok.ensures.unused.out
@@ -192,19 +105,27 @@ returns-in-Ok-deliver-clause-report g c = record {
 }
 
 -- where the report fails under it
+pub returns-clause-sources : goal.returns-clause-sources
+returns-clause-sources g c = record {
+  media = record { stays = c.in-Ok.ensures.media.stays; quiet = tt };
+  second = record { stays = c.in-Ok.ensures.second.stays; quiet = tt };
+  third = record { stays = c.in-Ok.ensures.third.stays; quiet = tt };
+  fourth = record { stays = c.in-Ok.ensures.fourth.stays; quiet = tt };
+}
+
 pub returns-clause-out : goal.returns-clause-out
 returns-clause-out g c =
-    file_untold (rose_since _ _ _ c.in-Ok.ensures.report.quiet c.in-Err.ensures.cause.failed) c.in-Ok.ensures.out
+    file_untold (rose_since _ _ _ c.in-Ok.ensures.report.quiet c.in-Err-deliver.ensures.cause.failed) c.in-Ok.ensures.out
 
 pub returns-clause-report : goal.returns-clause-report
 returns-clause-report g c = record {
-  later = let first = c.in-Ok.ensures.report.later in let then = c.in-Err.ensures.cause.later in omega
+  later = let first = c.in-Ok.ensures.report.later in let then = c.in-Err-deliver.ensures.cause.later in omega
       (arith, first, then);
   quiet = tt;
   grows = grows_then _ _ _ c.in-Ok.ensures.report.grows
       (take c.deliver.ensures.prefix.0 (string_bytes c.in-Ok.reply.text), c.deliver.ensures.prefix.1);
   is_finished = tt;
-  unfinished = c.in-Err.ensures.unfinished ∙ c.in-Ok.ensures.report.unfinished;
+  unfinished = c.in-Err-deliver.ensures.unfinished ∙ c.in-Ok.ensures.report.unfinished;
   unwritten = λ whole none. absurd none;
   judged = λ same. absurd (cc (same));
   behind = inr (behind_answered _ _ _ _ c.in-Ok.ensures.out.ends c.in-Ok.ensures.unused.out);

@@ -1,7 +1,7 @@
 use Rattle.std.proofs.Common.{map, refl}
 use Rattle.c2_spec.specs.Judges.Panel.{panel_says}
 use Rattle.c2_build_refusals.specs.Kinds.{judge_effects}
-use Rattle.c2_build.specs.Building.{IsPlanned}
+use Rattle.c2_build_plain.specs.Building.{IsPlanned}
 use Rattle.c2_cmd_written_spec.specs.Builds.{build_says, tbs_outcome}
 use Rattle.c2_cmd_written_spec.proofs.Builds.{build_replied, build_words}
 use Rattle.c2_cmd_written_spec.proofs.Calls.{words_reply}
@@ -22,19 +22,18 @@ returns-clause-words g c =
 
 -- ---- what is left of each file and of the judges
 
-pub returns-clause-media : goal.returns-clause-media
-returns-clause-media g c =
-    source_left g.A.Source.len g.A.Source.known g.A.Source.faults tbs_outcome judge_effects _
-    c.args.media.now c.plan-planned.new.media c.plan-planned.result c.planned_reply.result
-    c.plan-planned.ensures.media c.planned_reply.ensures.reply c.planned_reply.ensures.fault
-
-pub returns-clause-definition : goal.returns-clause-definition
-returns-clause-definition g c =
-    source_left g.B.Source.len g.B.Source.known g.B.Source.faults tbs_outcome judge_effects _
-    c.args.definition.now c.plan-planned.new.definition c.plan-planned.result c.planned_reply.result
-    c.plan-planned.ensures.definition c.planned_reply.ensures.reply c.planned_reply.ensures.fault
+pub returns-clause-sources : goal.returns-clause-sources
+returns-clause-sources g c = record {
+  media = source_left g.A.Source.len g.A.Source.known g.A.Source.faults tbs_outcome judge_effects _
+      c.args.media.now c.plan-planned.new.media c.plan-planned.result c.planned_reply.result
+      c.plan-planned.ensures.sources.media c.planned_reply.ensures.reply c.planned_reply.ensures.fault;
+  definition = source_left g.B.Source.len g.B.Source.known g.B.Source.faults tbs_outcome judge_effects _
+      c.args.definition.now c.plan-planned.new.definition c.plan-planned.result c.planned_reply.result
+      c.plan-planned.ensures.sources.definition c.planned_reply.ensures.reply c.planned_reply.ensures.fault;
+}
 
 pub returns-clause-panel : goal.returns-clause-panel
 returns-clause-panel g c =
-    panel_left _ _ _ _ c.args.judges.now c.plan-planned.new.judges tbs_outcome c.plan-planned.result c.planned_reply.result
+    panel_left _ _ _ _ c.args.judges.now c.plan-planned.new.judges tbs_outcome c.plan-planned.result
+    c.planned_reply.result
     c.plan-planned.ensures.panel c.planned_reply.ensures.reply c.planned_reply.ensures.fault

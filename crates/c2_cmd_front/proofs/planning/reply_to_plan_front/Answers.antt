@@ -23,16 +23,15 @@ pub returns-clause-within : goal.returns-clause-within
 returns-clause-within g c =
     build_within tbs_outcome plan_effects _
     (g.A.Source.faults c.args.media.now) (g.A.Source.faults c.plan_front-planned.new.media)
-    c.plan_front-planned.result c.planned_reply.result c.plan_front-planned.ensures.media.cause c.planned_reply.ensures.reply
+    c.plan_front-planned.result c.planned_reply.result c.plan_front-planned.ensures.sources.media.cause
+    c.planned_reply.ensures.reply
 
-pub returns-clause-media : goal.returns-clause-media
-returns-clause-media g c =
-    source_left g.A.Source.len g.A.Source.known g.A.Source.faults tbs_outcome plan_effects _
-    c.args.media.now c.plan_front-planned.new.media c.plan_front-planned.result c.planned_reply.result
-    c.plan_front-planned.ensures.media c.planned_reply.ensures.reply c.planned_reply.ensures.fault
-
-pub returns-clause-definition : goal.returns-clause-definition
-returns-clause-definition g c =
-    source_left g.B.Source.len g.B.Source.known g.B.Source.faults tbs_outcome plan_effects _
-    c.args.definition.now c.plan_front-planned.new.definition c.plan_front-planned.result c.planned_reply.result
-    c.plan_front-planned.ensures.definition c.planned_reply.ensures.reply c.planned_reply.ensures.fault
+pub returns-clause-sources : goal.returns-clause-sources
+returns-clause-sources g c = record {
+  media = source_left g.A.Source.len g.A.Source.known g.A.Source.faults tbs_outcome plan_effects _
+      c.args.media.now c.plan_front-planned.new.media c.plan_front-planned.result c.planned_reply.result
+      c.plan_front-planned.ensures.sources.media c.planned_reply.ensures.reply c.planned_reply.ensures.fault;
+  definition = source_left g.B.Source.len g.B.Source.known g.B.Source.faults tbs_outcome plan_effects _
+      c.args.definition.now c.plan_front-planned.new.definition c.plan_front-planned.result c.planned_reply.result
+      c.plan_front-planned.ensures.sources.definition c.planned_reply.ensures.reply c.planned_reply.ensures.fault;
+}

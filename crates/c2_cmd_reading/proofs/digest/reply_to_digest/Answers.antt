@@ -26,5 +26,7 @@ returns-clause-words g c = each_ok _ _ c.digest_reply.result (λ r out. no_usage
 -- once the digest is made, the one fault left is that memory runs out
 pub returns-clause-media : goal.returns-clause-media
 returns-clause-media g c =
-    reads_then g.S.Source.len g.S.Source.known g.S.Source.faults IsMediaCause IsMediaCause c.args.media.now c.digest_outside.new.source c.in_ok-digest.digest c.digest_reply.result (memory_cause _ _ c.digest_reply.result c.digest_reply.ensures.memory)
+    reads_then g.S.Source.len g.S.Source.known g.S.Source.faults IsMediaCause IsMediaCause c.args.media.now
+    c.digest_outside.new.source c.in_ok-digest.digest c.digest_reply.result
+    (memory_cause _ _ c.digest_reply.result c.digest_reply.ensures.memory)
     (reads_next g.S.Source.len g.S.Source.known g.S.Source.faults IsMediaCause IsMediaCause c.args.media.now c.open.new.media c.digest_outside.new.source _ _ c.in_ok-found.ensures.media c.in_ok-digest.ensures.reads)

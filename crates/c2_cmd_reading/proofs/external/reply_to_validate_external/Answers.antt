@@ -34,24 +34,30 @@ returns-in-Ok-clause-second g c =
 
 pub returns-in-Ok-clause-panel : goal.returns-in-Ok-clause-panel
 returns-in-Ok-clause-panel g c =
-    let Asks = AsksWhereDue g.H.Hashing.digest_of (g.A.Source.known c.args.media.now) (g.B.Source.known c.args.second.now) in
+    let Asks =
+    AsksWhereDue g.H.Hashing.digest_of (g.A.Source.known c.args.media.now) (g.B.Source.known c.args.second.now) in
     hears_later _ _ _ validate_heard fault_heard Asks Asks c.args.judges.now c.validate_external.new.judges c.in-Ok.answer c.external_reply.result (unbroken c.external_reply.result c.external_reply.ensures.memory) (λ qs asks. asks) c.in-Ok.ensures.panel
 
 -- ---- it fails
 
 pub returns-in-Err-clause-media : goal.returns-in-Err-clause-media
 returns-in-Err-clause-media g c =
-    reads_error g.A.Source.len g.A.Source.known g.A.Source.faults (IsSourceCause (g.B.Source.faults c.args.second.now) (g.B.Source.faults c.validate_external.new.store)) (IsReadingCause (Rose (g.B.Source.faults c.args.second.now) (g.B.Source.faults c.validate_external.new.store)))
+    reads_error g.A.Source.len g.A.Source.known g.A.Source.faults
+    (IsSourceCause (g.B.Source.faults c.args.second.now) (g.B.Source.faults c.validate_external.new.store))
+    (IsReadingCause (Rose (g.B.Source.faults c.args.second.now) (g.B.Source.faults c.validate_external.new.store)))
     c.args.media.now c.validate_external.new.source c.in-Err.error c.from.result
     (external_cause (g.B.Source.faults c.args.second.now) (g.B.Source.faults c.validate_external.new.store) (g.A.Source.faults c.args.media.now) (g.A.Source.faults c.validate_external.new.source) c.in-Err.error c.from.result c.from.ensures) c.in-Err.ensures.source
 
 pub returns-in-Err-clause-second : goal.returns-in-Err-clause-second
 returns-in-Err-clause-second g c =
-    reads_error g.B.Source.len g.B.Source.known g.B.Source.faults (IsSourceCause (g.A.Source.faults c.args.media.now) (g.A.Source.faults c.validate_external.new.source)) (IsReadingCause (Rose (g.A.Source.faults c.args.media.now) (g.A.Source.faults c.validate_external.new.source)))
+    reads_error g.B.Source.len g.B.Source.known g.B.Source.faults
+    (IsSourceCause (g.A.Source.faults c.args.media.now) (g.A.Source.faults c.validate_external.new.source))
+    (IsReadingCause (Rose (g.A.Source.faults c.args.media.now) (g.A.Source.faults c.validate_external.new.source)))
     c.args.second.now c.validate_external.new.store c.in-Err.error c.from.result
     (external_cause (g.A.Source.faults c.args.media.now) (g.A.Source.faults c.validate_external.new.source) (g.B.Source.faults c.args.second.now) (g.B.Source.faults c.validate_external.new.store) c.in-Err.error c.from.result c.from.ensures) c.in-Err.ensures.store
 
 pub returns-in-Err-clause-panel : goal.returns-in-Err-clause-panel
 returns-in-Err-clause-panel g c =
-    let Asks = AsksWhereDue g.H.Hashing.digest_of (g.A.Source.known c.args.media.now) (g.B.Source.known c.args.second.now) in
+    let Asks =
+    AsksWhereDue g.H.Hashing.digest_of (g.A.Source.known c.args.media.now) (g.B.Source.known c.args.second.now) in
     hears_error _ _ _ validate_heard fault_heard Asks Asks c.args.judges.now c.validate_external.new.judges c.in-Err.error c.from.result (check_heard c.in-Err.error c.from.result c.from.ensures) (λ qs asks. asks) c.in-Err.ensures.panel

@@ -7,12 +7,16 @@ use Rattle.c2_cmd_reading.proofs.prepare.all_asked.Goals as goal
 pub loop-i-init : goal.loop-i-init
 loop-i-init c = record {
   within = omega arith;
-  so_far = all_start c.args.tree.now c.args.store.now c.args.chain.now _ _ c.requires c.new-asked.ensures.items c.manifest_count-i.ensures.count;
+  so_far =
+      all_start c.args.tree.now c.args.store.now c.args.chain.now _ _ c.requires c.new-asked.ensures.items
+      c.manifest_count-i.ensures.count;
 }
 
 -- a step lists the next manifest down where it is reached, and leaves those below it to come
 pub loop-i-preserved : goal.loop-i-preserved
 loop-i-preserved c = record {
   within = omega (arith, c.loop-i.invariant.within);
-  so_far = down_more (asked_at c.args.chain.now.readings) _ _ _ c.loop-i.i c.loop-i-test.true c.loop-i.invariant.so_far c.in_ok-push_asked.ensures;
+  so_far =
+      down_more (asked_at c.args.chain.now.readings) _ _ _ c.loop-i.i c.loop-i-test.true c.loop-i.invariant.so_far
+      c.in_ok-push_asked.ensures;
 }

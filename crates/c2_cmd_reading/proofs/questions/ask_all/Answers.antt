@@ -29,11 +29,18 @@ loop-one-preserved g c =
     let one = c.one-item.result in
     let same = c.loop-one.invariant.asked.heard.stays.same in
     record {
-      text = lines_more _ _ c.args.asked.now c.loop-one.one-index one (string_bytes c.loop-one.text) (string_bytes c.push_line.new.out) same c.loop-one-test.true c.one-item.is c.loop-one.invariant.text c.in-Ok.ensures.line;
+      text =
+          lines_more _ _ c.args.asked.now c.loop-one.one-index one (string_bytes c.loop-one.text)
+          (string_bytes c.push_line.new.out) same c.loop-one-test.true c.one-item.is c.loop-one.invariant.text
+          c.in-Ok.ensures.line;
       asked = asked_more _ _ _ (questions_in c.args.asked.now) (option_to_list one.question) (questions_in (drop c.loop-one.one-index c.args.asked.now)) (questions_in (drop (c.loop-one.one-index + 1) c.args.asked.now)) c.args.judges.now c.loop-one.judges c.push_line.new.judges tt
           (questions_on c.args.asked.now c.loop-one.one-index one c.loop-one-test.true c.one-item.is) c.loop-one.invariant.asked c.in-Ok.ensures.panel;
     }
 
 -- all were asked
 pub returns-clause-panel : goal.returns-clause-panel
-returns-clause-panel g c = asked_all _ _ _ (questions_in c.args.asked.now) (questions_in (drop c.loop-one.one-index c.args.asked.now)) c.args.judges.now c.loop-one.judges _ (ap questions_in (drop_all c.loop-one.one-index c.args.asked.now c.loop-one-test.false)) c.loop-one.invariant.asked
+returns-clause-panel g c =
+    asked_all _ _ _ (questions_in c.args.asked.now) (questions_in (drop c.loop-one.one-index c.args.asked.now))
+    c.args.judges.now c.loop-one.judges _
+    (ap questions_in (drop_all c.loop-one.one-index c.args.asked.now c.loop-one-test.false))
+    c.loop-one.invariant.asked

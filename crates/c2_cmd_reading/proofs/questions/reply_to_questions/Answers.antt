@@ -1,3 +1,4 @@
+use Rattle.c2_validate.proofs.TheLaws.{one_check_questions}
 use Rattle.std.proofs.Common.{◌∙◌, ap, sym, Ok, [], map}
 use Rattle.c2_calls_spec.specs.Asks.{AsksKnown, AsksThese}
 use Rattle.c2_calls_spec.proofs.PanelLemmas.{hears_early, hears_nobody, hears_same}
@@ -26,7 +27,8 @@ returns-in-Err-clause-panel g c =
 -- ---- the reply stands before anybody is asked
 
 pub returns-in-Reply-clause-reply : goal.returns-in-Reply-clause-reply
-returns-in-Reply-clause-reply g c file known = (prepared_reply file _ c.in-Reply.reply c.in-Reply.is (c.in-Ok.ensures.prepared file known)).1 _
+returns-in-Reply-clause-reply g c file known =
+    (prepared_reply file _ c.in-Reply.reply c.in-Reply.is (c.in-Ok.ensures.prepared file known)).1 _
 
 pub returns-in-Reply-clause-media : goal.returns-in-Reply-clause-media
 returns-in-Reply-clause-media g c =
@@ -35,7 +37,7 @@ returns-in-Reply-clause-media g c =
 pub returns-in-Reply-clause-panel : goal.returns-in-Reply-clause-panel
 returns-in-Reply-clause-panel g c =
     hears_nobody _ _ _ fault_heard (AsksKnown (g.S.Source.known c.args.media.now) (λ file said. AreQuestions file)) c.args.judges.now c.in-Reply.reply
-    (λ qs asks. c.one_check.ensures.questions asks.0 qs [] asks.2 (prepared_reply asks.0 _ c.in-Reply.reply c.in-Reply.is (c.in-Ok.ensures.prepared asks.0 asks.1)).0)
+    (λ qs asks. one_check_questions asks.0 qs [] asks.2 (prepared_reply asks.0 _ c.in-Reply.reply c.in-Reply.is (c.in-Ok.ensures.prepared asks.0 asks.1)).0)
 
 -- ---- manifests are asked of
 
@@ -54,5 +56,6 @@ returns-in-Ask-clause-media g c =
 
 pub returns-in-Ask-clause-panel : goal.returns-in-Ask-clause-panel
 returns-in-Ask-clause-panel g c =
-    hears_same _ _ _ fault_heard (AsksKnown (g.S.Source.known c.args.media.now) (λ file said. AreQuestions file)) (AsksThese (questions_in c.as_slice.result.now)) c.args.judges.now c.ask_all.new.judges c.ask_all.result
-    (λ qs asks. c.one_check.ensures.questions asks.0 qs (questions_in c.in-Ask.asked.items) asks.2 (prepared_ask asks.0 _ c.in-Ask.asked c.in-Ask.is (c.in-Ok.ensures.prepared asks.0 asks.1)).0 ∙ ap questions_in (sym c.as_slice.ensures.value)) c.ask_all.ensures.panel
+    hears_same _ _ _ fault_heard (AsksKnown (g.S.Source.known c.args.media.now) (λ file said. AreQuestions file))
+    (AsksThese (questions_in c.as_slice.result.now)) c.args.judges.now c.ask_all.new.judges c.ask_all.result
+    (λ qs asks. one_check_questions asks.0 qs (questions_in c.in-Ask.asked.items) asks.2 (prepared_ask asks.0 _ c.in-Ask.asked c.in-Ask.is (c.in-Ok.ensures.prepared asks.0 asks.1)).0 ∙ ap questions_in (sym c.as_slice.ensures.value)) c.ask_all.ensures.panel

@@ -4,7 +4,7 @@ use Rattle.c2_calls_spec.proofs.PanelLemmas.{hears_error, hears_later}
 use Rattle.c2_calls_spec.proofs.SourceLemmas.{reads_error, reads_then}
 use Rattle.c2_calls_spec.specs.Asks.{AsksKnown}
 use Rattle.c2_validate.specs.Validation.{FileAsks}
-use Rattle.c2_validate.specs.Checked.{IsReadCause, validate_heard}
+use Rattle.c2_validate.specs.Checked.{IsCheckReadCause, validate_heard}
 use Rattle.c2_cmd_outcome.specs.Outcome.{answered}
 use Rattle.c2_cmd_outcome.specs.Reply.{IsPanelCause, Replies, fault_heard, outcome_of}
 use Rattle.c2_cmd_outcome.specs.declared.reply.Reply.{Reply}
@@ -27,7 +27,7 @@ returns-in-Ok-clause-words g c = answered_words c.in-Ok.checked c.reply_to_answe
 
 pub returns-in-Ok-clause-media : goal.returns-in-Ok-clause-media
 returns-in-Ok-clause-media g c =
-    reads_then g.S.Source.len g.S.Source.known g.S.Source.faults IsReadCause IsPanelCause c.args.media.now c.validate.new.source c.in-Ok.checked c.reply_to_answer.result
+    reads_then g.S.Source.len g.S.Source.known g.S.Source.faults IsCheckReadCause IsPanelCause c.args.media.now c.validate.new.source c.in-Ok.checked c.reply_to_answer.result
     (memory_only (IsPanelCause (g.S.Source.faults c.args.media.now) (g.S.Source.faults c.validate.new.source)) c.reply_to_answer.result tt c.reply_to_answer.ensures.memory) c.in-Ok.ensures.reads
 
 pub returns-in-Ok-clause-panel : goal.returns-in-Ok-clause-panel
@@ -39,7 +39,7 @@ returns-in-Ok-clause-panel g c =
 
 pub returns-in-Err-clause-media : goal.returns-in-Err-clause-media
 returns-in-Err-clause-media g c =
-    reads_error g.S.Source.len g.S.Source.known g.S.Source.faults IsReadCause IsPanelCause c.args.media.now c.validate.new.source c.in-Err.error c.from.result
+    reads_error g.S.Source.len g.S.Source.known g.S.Source.faults IsCheckReadCause IsPanelCause c.args.media.now c.validate.new.source c.in-Err.error c.from.result
     (check_cause (g.S.Source.faults c.args.media.now) (g.S.Source.faults c.validate.new.source) c.in-Err.error c.from.result c.from.ensures) c.in-Err.ensures.reads
 
 pub returns-in-Err-clause-panel : goal.returns-in-Err-clause-panel

@@ -4,4 +4,6 @@ use Rattle.c2_collect.proofs.appending.append_wanted_less.Given as goal
 
 -- what is left is still to be appended
 abbrev pub invariant-loop-i : goal.invariant-loop-i
-invariant-loop-i l = l.out.items ++ wanted_from l.wanted l.i (drop l.i (less_in l.redactions l.side)) ≡ l.fn.out.items ++ wanted_bytes l.wanted (less_in l.redactions l.side)
+invariant-loop-i l =
+    l.out.items ++ wanted_from l.wanted l.i (drop l.i (less_in l.redactions l.side)) ≡ l.fn.out.items ++ wanted_bytes
+    l.wanted (less_in l.redactions l.side)

@@ -10,13 +10,16 @@ overflow_add-len c =
     let ts = manifests_in c.args.side.now in
     let flags = c.args.wanted.now in
     let rest = wanted_from flags (c.loop-i.i + 1) (drop (c.loop-i.i + 1) ts) in
-    omega (arith, c.loop-i.invariant, ap length (left_wanted flags ts c.loop-i.i c.manifest.result.now c.manifest.ensures c.if-is_wanted.true), length-append c.manifest.result.now rest, wanted_bound flags c.args.side.now.boxes, ap length c.boxes-most.ensures)
+    omega
+    (arith, c.loop-i.invariant, ap length (left_wanted flags ts c.loop-i.i c.manifest.result.now c.manifest.ensures c.if-is_wanted.true), length-append c.manifest.result.now rest, wanted_bound flags c.args.side.now.boxes, ap length c.boxes-most.ensures)
 
 pub returns-clause-fits : goal.returns-clause-fits
 returns-clause-fits c =
     let ts = manifests_in c.args.side.now in
     let flags = c.args.wanted.now in
-    let all = count_end flags ts c.loop-i.i c.loop-i.len (length (wanted_bytes flags ts)) c.loop-i.invariant (omega (arith, c.loop-i-test.false, c.requires)) in
+    let all =
+    count_end flags ts c.loop-i.i c.loop-i.len (length (wanted_bytes flags ts)) c.loop-i.invariant
+    (omega (arith, c.loop-i-test.false, c.requires)) in
     omega (arith, all, wanted_bound flags c.args.side.now.boxes, ap length c.boxes-most.ensures)
 
 pub loop-i-preserved : goal.loop-i-preserved

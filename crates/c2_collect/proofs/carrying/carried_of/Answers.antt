@@ -23,5 +23,6 @@ loop-i-preserved c =
 
 pub returns-clause-carried : goal.returns-clause-carried
 returns-clause-carried c =
-    let end : c.loop-i.i ≡ length (manifests_in c.args.other.now) = omega (arith, c.loop-i-test.false, c.loop-i.auto.i-end, c.len-i-end.ensures.count) in
+    let end : c.loop-i.i ≡ length (manifests_in c.args.other.now) =
+    omega (arith, c.loop-i-test.false, c.loop-i.auto.i-end, c.len-i-end.ensures.count) in
     subst (λ n. AreCarried c.args.old.now c.args.other.now c.loop-i.flags.items n) end c.loop-i.invariant

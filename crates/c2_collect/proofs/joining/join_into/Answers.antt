@@ -18,5 +18,8 @@ pub returns-clause-joined : goal.returns-clause-joined
 returns-clause-joined c =
     let old = c.args.old.now in
     let other = c.args.other.now in
-    let carried = subst (λ fs. AreCarried old other fs (length (manifests_in other))) (sym c.deref.ensures.value) c.in-Ok.ensures.carried in
-    joined_behind old other c.deref.result.now c.args.out.now.items c.boxes.result.now c.append_with.new.out.items c.boxes.ensures carried c.in_ok-append_with.ensures
+    let carried =
+    subst (λ fs. AreCarried old other fs (length (manifests_in other))) (sym c.deref.ensures.value)
+    c.in-Ok.ensures.carried in
+    joined_behind old other c.deref.result.now c.args.out.now.items c.boxes.result.now c.append_with.new.out.items
+    c.boxes.ensures carried c.in_ok-append_with.ensures

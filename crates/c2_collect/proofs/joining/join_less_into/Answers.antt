@@ -20,8 +20,11 @@ pub returns-clause-joined : goal.returns-clause-joined
 returns-clause-joined c =
     let old = c.args.old.now in
     let other = c.args.other.now in
-    let carried = subst (λ fs. AreCarried old other fs (length (manifests_in other))) (sym c.as_slice-wanted.ensures.value) c.in-Ok.ensures.carried in
-    less_behind old other c.as_slice-wanted.result.now c.args.redactions.now c.args.out.now.items c.append_both_less.new.out.items carried c.in_ok-append_both_less.ensures
+    let carried =
+    subst (λ fs. AreCarried old other fs (length (manifests_in other))) (sym c.as_slice-wanted.ensures.value)
+    c.in-Ok.ensures.carried in
+    less_behind old other c.as_slice-wanted.result.now c.args.redactions.now c.args.out.now.items
+    c.append_both_less.new.out.items carried c.in_ok-append_both_less.ensures
 
 -- how many are carried
 pub returns-clause-count : goal.returns-clause-count

@@ -12,4 +12,5 @@ pub returns : goal.returns
 returns c =
     c.compare_lists.ensures (box_pair c.args.left.now c.args.right.now c.args.entry.now c.args.name.now)
     (ap by_name (ap (λ (r : Reading). alg_in r c.args.entry.now.alg) (sym c.owner-own.ensures) ∙ sym c.alg_name.ensures))
-    (ap (λ (r : Reading). assertion_uri (label_in r) c.args.name.now) (sym c.owner-own.ensures) ∙ ap (λ l. assertion_uri l c.args.name.now) (sym c.label.ensures)) (sym c.contents_with.ensures) (sym c.contents_with-2.ensures)
+    (ap (λ (r : Reading). assertion_uri (label_in r) c.args.name.now) (sym c.owner-own.ensures) ∙ ap (λ l. assertion_uri l c.args.name.now) (sym c.label.ensures))
+    (sym c.contents_with.ensures) (sym c.contents_with-2.ensures)

@@ -9,6 +9,7 @@ use Rattle.c2_compare_difference.proofs.pairs.claim_difference.Goals as goal
 pub returns : goal.returns
 returns c =
     c.compare_known.ensures
-    (claim_pair c.args.name.now (option_map (λ k. k.now) c.args.left) (option_map (λ k. k.now) c.args.right))
+    (claim_pair c.args.target.now.name.now
+    (option_map (λ k. k.now) c.args.target.now.left) (option_map (λ k. k.now) c.args.target.now.right))
     (ap by_box (sym c.signature_contents.ensures)) refl (sym c.claim_bytes.ensures) (sym c.claim_bytes-2.ensures)
-    (ap (λ (e : Equality). e.claims) c.requires)
+    (ap (λ (e : Equality). e.claims) c.args.target.now.compared)

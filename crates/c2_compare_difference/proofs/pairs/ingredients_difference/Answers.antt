@@ -11,11 +11,17 @@ use Rattle.c2_compare_difference.proofs.pairs.ingredients_difference.Goals as go
 -- this entry's pair is the first that differs
 pub returns-in-Some : goal.returns-in-Some
 returns-in-Some c =
-    each_found (λ (e : Ref). option_map_or (ingredient_pairs c.args.first.now c.args.second.now c.args.left.now c.args.right.now e) (entry_label c.args.left.now.manifest e) []) (entries_in c.args.left.now) c.loop-k.k c.entry_at-entry.result.now (view c.in-Some.found) c.entry_at-entry.ensures c.loop-k.invariant
+    let left = c.args.left.now in
+    let pairs = ingredient_pairs c.args.stores.now.first.now c.args.stores.now.second.now left c.args.right.now in
+    each_found (λ (e : Ref). option_map_or (pairs e) (entry_label left.manifest e) []) (entries_in left)
+    c.loop-k.k c.entry_at-entry.result.now (view c.in-Some.found) c.entry_at-entry.ensures c.loop-k.invariant
     (ap (option_map view) (sym c.in-Some.is) ∙ c.entry_ingredient-found.ensures)
 
 -- no pair of this entry differs
 pub loop-k-preserved : goal.loop-k-preserved
 loop-k-preserved c =
-    each_passed (λ (e : Ref). option_map_or (ingredient_pairs c.args.first.now c.args.second.now c.args.left.now c.args.right.now e) (entry_label c.args.left.now.manifest e) []) (entries_in c.args.left.now) c.loop-k.k c.entry_at-entry.result.now c.entry_at-entry.ensures c.loop-k.invariant
+    let left = c.args.left.now in
+    let pairs = ingredient_pairs c.args.stores.now.first.now c.args.stores.now.second.now left c.args.right.now in
+    each_passed (λ (e : Ref). option_map_or (pairs e) (entry_label left.manifest e) []) (entries_in left)
+    c.loop-k.k c.entry_at-entry.result.now c.entry_at-entry.ensures c.loop-k.invariant
     (ap (option_map view) (sym c.in_default.is) ∙ c.entry_ingredient-found.ensures)

@@ -12,5 +12,8 @@ use Rattle.c2_compare_difference.proofs.pairs.ingredients_difference.Given as go
 -- no pair of the entries before this one differs
 abbrev pub invariant-loop-k : goal.invariant-loop-k
 invariant-loop-k l =
-    let pairs = λ (e : Ref). option_map_or (ingredient_pairs l.first l.second l.left l.right e) (entry_label l.left.manifest e) [] in
-    option_map shown (find do_differ (flat_map pairs (entries_in l.left))) ≡ option_map shown (find do_differ (flat_map pairs (drop l.k (entries_in l.left))))
+    let pairs =
+    λ (e : Ref). option_map_or (ingredient_pairs l.stores.first.now l.stores.second.now l.left l.right e)
+    (entry_label l.left.manifest e) [] in
+    option_map shown (find do_differ (flat_map pairs (entries_in l.left))) ≡ option_map shown
+    (find do_differ (flat_map pairs (drop l.k (entries_in l.left))))

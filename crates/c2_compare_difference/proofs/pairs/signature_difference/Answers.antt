@@ -9,6 +9,7 @@ use Rattle.c2_compare_difference.proofs.pairs.signature_difference.Goals as goal
 pub returns : goal.returns
 returns c =
     c.compare_known.ensures
-    (signature_pair c.args.own.now c.args.reference.now c.args.name.now (option_map (λ k. k.now) c.args.left) (option_map (λ k. k.now) c.args.right))
+    (signature_pair c.args.own.now c.args.reference.now c.args.target.now.name.now
+    (option_map (λ k. k.now) c.args.target.now.left) (option_map (λ k. k.now) c.args.target.now.right))
     (ap by_name (sym c.alg_name.ensures)) refl (sym c.signature_contents.ensures) (sym c.signature_contents-2.ensures)
-    (ap (λ (e : Equality). e.signatures) c.requires)
+    (ap (λ (e : Equality). e.signatures) c.args.target.now.compared)

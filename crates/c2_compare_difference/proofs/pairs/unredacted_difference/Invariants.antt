@@ -12,5 +12,7 @@ use Rattle.c2_compare_difference.proofs.pairs.unredacted_difference.Given as goa
 -- no pair of the entries before this one differs
 abbrev pub invariant-loop-k : goal.invariant-loop-k
 invariant-loop-k l =
-    let pairs = λ (e : Ref). option_map_or (unredacted_pairs l.first l.n l.left l.right e) (entry_label l.left.manifest e) [] in
-    option_map shown (find do_differ (flat_map pairs (entries_in l.left))) ≡ option_map shown (find do_differ (flat_map pairs (drop l.k (entries_in l.left))))
+    let pairs =
+    λ (e : Ref). option_map_or (unredacted_pairs l.first l.n l.left l.right e) (entry_label l.left.manifest e) [] in
+    option_map shown (find do_differ (flat_map pairs (entries_in l.left))) ≡ option_map shown
+    (find do_differ (flat_map pairs (drop l.k (entries_in l.left))))

@@ -14,5 +14,6 @@ returns-in-Some c =
 -- none differs at this place
 pub loop-n-preserved : goal.loop-n-preserved
 loop-n-preserved c =
-    down_passed (ingredients_at c.args.first.now c.args.second.now) (length c.args.first.now) c.loop-n.n c.loop-n-test.true c.loop-n.invariant
+    down_passed (ingredients_at c.args.first.now c.args.second.now) (length c.args.first.now) c.loop-n.n
+    c.loop-n-test.true c.loop-n.invariant
     (ap (option_map view) (sym c.in_default.is) ∙ c.in_ok-found.ensures)

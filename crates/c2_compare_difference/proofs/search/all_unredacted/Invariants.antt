@@ -11,4 +11,5 @@ use Rattle.c2_compare_difference.proofs.search.all_unredacted.Given as goal
 abbrev pub invariant-loop-n : goal.invariant-loop-n
 invariant-loop-n l =
     let pairs = unredacted_at l.first l.second in
-    option_map shown (find do_differ (downward pairs (length l.first))) ≡ option_map shown (find do_differ (downward pairs l.n))
+    option_map shown (find do_differ (downward pairs (length l.first))) ≡ option_map shown
+    (find do_differ (downward pairs l.n))

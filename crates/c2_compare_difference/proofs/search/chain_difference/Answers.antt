@@ -14,5 +14,6 @@ returns-in-Some c =
 -- or an assertion does, or nothing
 pub returns : goal.returns
 returns c =
-    found_after (all_ingredients c.args.first.now c.args.second.now) (all_unredacted c.args.first.now c.args.second.now) c.all_unredacted.result
+    found_after (all_ingredients c.args.first.now c.args.second.now) (all_unredacted c.args.first.now c.args.second.now)
+    c.all_unredacted.result
     (ap (option_map view) (sym c.in_default.is) ∙ c.in_ok-found.ensures) c.all_unredacted.ensures

@@ -6,4 +6,5 @@ use Rattle.c2_compare_evidence.proofs.covered.write_head.Goals as goal
 -- the pieces are the line
 pub returns-clause-wrote : goal.returns-clause-wrote
 returns-clause-wrote g c =
-    written_same c.write_pieces.result (g.W.Sink.written c.args.report.now) (g.W.Sink.written c.write_pieces.new.report) _ (covered_head c.args.alg.now) c.write_pieces.ensures.wrote (head_pieces c.args.alg.now)
+    written_same c.write_pieces.result (g.W.Sink.written c.args.report.now) (g.W.Sink.written c.write_pieces.new.report)
+    _ (covered_head c.args.alg.now) c.write_pieces.ensures.wrote (head_pieces c.args.alg.now)

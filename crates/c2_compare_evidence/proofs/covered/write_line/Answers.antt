@@ -12,20 +12,23 @@ use Rattle.c2_compare_evidence.proofs.covered.write_line.Goals as goal
 -- the digits failed
 pub returns-in-Err-clause-wrote : goal.returns-in-Err-clause-wrote
 returns-in-Err-clause-wrote g c = λ file known.
-    written_prefix _ (g.W.Sink.written c.args.report.now) (g.W.Sink.written c.write_text.new.report) (hex_line (text_of c.args.cover.now file))
+    written_prefix _ (g.W.Sink.written c.args.report.now) (g.W.Sink.written c.write_text.new.report)
+    (hex_line (text_of c.args.cover.now file))
     (prefix_first (g.W.Sink.written c.args.report.now) (g.W.Sink.written c.write_text.new.report) (encode_lower (text_of c.args.cover.now file)) (0x0A ∷ []) (hex_line (text_of c.args.cover.now file)) (c.in-Err.ensures.wrote file known).prefix refl)
 
 -- the line feed failed
 pub returns-in-Err-write_pieces-clause-wrote : goal.returns-in-Err-write_pieces-clause-wrote
 returns-in-Err-write_pieces-clause-wrote g c = λ file known.
-    written_prefix _ (g.W.Sink.written c.args.report.now) (g.W.Sink.written c.write_pieces.new.report) (hex_line (text_of c.args.cover.now file))
+    written_prefix _ (g.W.Sink.written c.args.report.now) (g.W.Sink.written c.write_pieces.new.report)
+    (hex_line (text_of c.args.cover.now file))
     (last_prefix (g.W.Sink.written c.args.report.now) (g.W.Sink.written c.write_text.new.report) (g.W.Sink.written c.write_pieces.new.report)
     (encode_lower (text_of c.args.cover.now file)) (0x0A ∷ []) (hex_line (text_of c.args.cover.now file)) (c.in-Ok.ensures.wrote file known).whole c.in-Err-write_pieces.ensures.wrote.prefix refl)
 
 -- both are written
 pub returns-in-Ok-write_pieces-clause-wrote : goal.returns-in-Ok-write_pieces-clause-wrote
 returns-in-Ok-write_pieces-clause-wrote g c = λ file known.
-    written_whole _ (g.W.Sink.written c.args.report.now) (g.W.Sink.written c.write_pieces.new.report) (hex_line (text_of c.args.cover.now file))
+    written_whole _ (g.W.Sink.written c.args.report.now) (g.W.Sink.written c.write_pieces.new.report)
+    (hex_line (text_of c.args.cover.now file))
     (last_whole (g.W.Sink.written c.args.report.now) (g.W.Sink.written c.write_text.new.report) (g.W.Sink.written c.write_pieces.new.report)
     (encode_lower (text_of c.args.cover.now file)) (0x0A ∷ []) (hex_line (text_of c.args.cover.now file)) (c.in-Ok.ensures.wrote file known).whole c.in-Ok-write_pieces.ensures.wrote.whole refl)
 
@@ -33,7 +36,8 @@ returns-in-Ok-write_pieces-clause-wrote g c = λ file known.
 
 -- the line feed failed
 pub returns-in-Err-write_pieces-clause-source : goal.returns-in-Err-write_pieces-clause-source
-returns-in-Err-write_pieces-clause-source g c = reads_then _ _ _ _ _ c.args.source.now c.write_text.new.source _ _ tt c.in-Ok.ensures.source
+returns-in-Err-write_pieces-clause-source g c =
+    reads_then _ _ _ _ _ c.args.source.now c.write_text.new.source _ _ tt c.in-Ok.ensures.source
 
 pub returns-in-Err-write_pieces-clause-report : goal.returns-in-Err-write_pieces-clause-report
 returns-in-Err-write_pieces-clause-report g c =
@@ -42,7 +46,8 @@ returns-in-Err-write_pieces-clause-report g c =
 
 -- both are written
 pub returns-in-Ok-write_pieces-clause-source : goal.returns-in-Ok-write_pieces-clause-source
-returns-in-Ok-write_pieces-clause-source g c = reads_then _ _ _ _ _ c.args.source.now c.write_text.new.source _ _ tt c.in-Ok.ensures.source
+returns-in-Ok-write_pieces-clause-source g c =
+    reads_then _ _ _ _ _ c.args.source.now c.write_text.new.source _ _ tt c.in-Ok.ensures.source
 
 pub returns-in-Ok-write_pieces-clause-report : goal.returns-in-Ok-write_pieces-clause-report
 returns-in-Ok-write_pieces-clause-report g c =

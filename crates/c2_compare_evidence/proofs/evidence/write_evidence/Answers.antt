@@ -11,21 +11,26 @@ use Rattle.c2_compare_evidence.proofs.evidence.write_evidence.Goals as goal
 -- the report failed before the location
 pub returns-in-Err-clause-wrote : goal.returns-in-Err-clause-wrote
 returns-in-Err-clause-wrote g c = λ p is.
-    written_prefix _ (g.W.Sink.written c.args.report.now) (g.W.Sink.written c.write_opening.new.report) (evidence_text p)
+    written_prefix _ (g.W.Sink.written c.args.report.now) (g.W.Sink.written c.write_opening.new.report)
+    (evidence_text p)
     (prefix_first (g.W.Sink.written c.args.report.now) (g.W.Sink.written c.write_opening.new.report) (opening (binder_view c.args.found.now.bound_by)) _ (evidence_text p) c.in-Err.ensures.wrote.prefix (found_parts c.args.found.now p is))
 
 -- the report failed at the location
 pub returns-in-Err-write_location-clause-wrote : goal.returns-in-Err-write_location-clause-wrote
 returns-in-Err-write_location-clause-wrote g c = λ p is.
-    written_prefix _ (g.W.Sink.written c.args.report.now) (g.W.Sink.written c.write_location.new.report) (evidence_text p)
+    written_prefix _ (g.W.Sink.written c.args.report.now) (g.W.Sink.written c.write_location.new.report)
+    (evidence_text p)
     (prefix_after (g.W.Sink.written c.args.report.now) (g.W.Sink.written c.write_opening.new.report) (g.W.Sink.written c.write_location.new.report)
     (opening (binder_view c.args.found.now.bound_by)) (printed (location_view c.args.found.now.location)) _ (evidence_text p) c.in-Ok.ensures.wrote.whole c.in-Err-write_location.ensures.wrote.prefix (found_parts c.args.found.now p is))
 
 -- the lines behind it
 pub returns-clause-wrote : goal.returns-clause-wrote
 returns-clause-wrote g c = λ p is.
-    written_last c.write_later.result (g.W.Sink.written c.args.report.now) (g.W.Sink.written c.write_location.new.report) (g.W.Sink.written c.write_later.new.report)
-    (opening (binder_view c.args.found.now.bound_by) ++ printed (location_view c.args.found.now.location)) (later_lines (binder_view c.args.found.now.bound_by) c.args.found.now.left.now c.args.found.now.right.now) (evidence_text p)
+    written_last c.write_later.result (g.W.Sink.written c.args.report.now)
+    (g.W.Sink.written c.write_location.new.report) (g.W.Sink.written c.write_later.new.report)
+    (opening (binder_view c.args.found.now.bound_by) ++ printed (location_view c.args.found.now.location))
+    (later_lines (binder_view c.args.found.now.bound_by) c.args.found.now.left.now c.args.found.now.right.now)
+    (evidence_text p)
     (appends_after (g.W.Sink.written c.args.report.now) (g.W.Sink.written c.write_opening.new.report)
     (g.W.Sink.written c.write_location.new.report) (opening (binder_view c.args.found.now.bound_by))
     (printed (location_view c.args.found.now.location)) c.in-Ok.ensures.wrote.whole

@@ -8,7 +8,8 @@ use Rattle.c2_compare_evidence.proofs.evidence.write_location.Goals as goal
 -- of an assertion
 pub returns-in-Assertion-clause-wrote : goal.returns-in-Assertion-clause-wrote
 returns-in-Assertion-clause-wrote g c =
-    written_same c.write_pieces.result (g.W.Sink.written c.args.report.now) (g.W.Sink.written c.write_pieces.new.report) _ (printed (location_view c.args.location)) c.write_pieces.ensures.wrote
+    written_same c.write_pieces.result (g.W.Sink.written c.args.report.now) (g.W.Sink.written c.write_pieces.new.report)
+    _ (printed (location_view c.args.location)) c.write_pieces.ensures.wrote
     (ap (λ l. printed (location_view l)) c.in-Assertion.is ∙ assertion_lines c.in-Assertion.manifest.now c.in-Assertion.label.now)
 
 -- of a signature

@@ -10,7 +10,8 @@ use Rattle.c2_compare_evidence.proofs.pieces.write_pieces.Goals as goal
 -- the report failed at a piece
 pub returns-in-Err-clause-wrote : goal.returns-in-Err-clause-wrote
 returns-in-Err-clause-wrote g c =
-    written_prefix _ (g.W.Sink.written c.args.report.now) (g.W.Sink.written c.write_piece.new.report) (flat_map piece_text c.args.pieces.now)
+    written_prefix _ (g.W.Sink.written c.args.report.now) (g.W.Sink.written c.write_piece.new.report)
+    (flat_map piece_text c.args.pieces.now)
     (front_part (flat_map piece_text) (flat_map-append piece_text) c.args.pieces.now c.pieces.done 1 (g.W.Sink.written c.args.report.now) (g.W.Sink.written c.pieces.report) (g.W.Sink.written c.write_piece.new.report)
     c.pieces.invariant.wrote
     (subst (HasWrittenPrefix (g.W.Sink.written c.pieces.report) (g.W.Sink.written c.write_piece.new.report)) (sym (one_member piece_text c.args.pieces.now c.pieces.done _ c.pieces-test.true)) c.in-Err.ensures.wrote.prefix))
@@ -18,7 +19,8 @@ returns-in-Err-clause-wrote g c =
 -- all pieces are written
 pub returns-clause-wrote : goal.returns-clause-wrote
 returns-clause-wrote g c =
-    written_whole _ (g.W.Sink.written c.args.report.now) (g.W.Sink.written c.pieces.report) (flat_map piece_text c.args.pieces.now)
+    written_whole _ (g.W.Sink.written c.args.report.now) (g.W.Sink.written c.pieces.report)
+    (flat_map piece_text c.args.pieces.now)
     (front_all (flat_map piece_text) (flat_map-append piece_text) c.args.pieces.now c.pieces.done (g.W.Sink.written c.args.report.now) (g.W.Sink.written c.pieces.report) (omega (arith, c.pieces-test.false)) c.pieces.invariant.wrote)
 
 -- ---- what is left of the report
@@ -35,4 +37,5 @@ pub returns-clause-report : goal.returns-clause-report
 returns-clause-report g c =
     let done = c.pieces.invariant in
     writes_done c.args.report.now c.pieces.report _
-    (sink_so_far (flat_map piece_text (take c.pieces.done c.args.pieces.now)) c.args.report.now c.pieces.report done.wrote done.unfinished done.count) done.count tt
+    (sink_so_far (flat_map piece_text (take c.pieces.done c.args.pieces.now)) c.args.report.now c.pieces.report done.wrote done.unfinished done.count)
+    done.count tt

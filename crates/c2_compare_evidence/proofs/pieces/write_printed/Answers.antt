@@ -9,7 +9,8 @@ use Rattle.c2_compare_evidence.proofs.pieces.write_printed.Goals as goal
 -- the report failed at a byte
 pub returns-in-Err-clause-wrote : goal.returns-in-Err-clause-wrote
 returns-in-Err-clause-wrote g c =
-    written_prefix _ (g.W.Sink.written c.args.report.now) (g.W.Sink.written c.write_bytes.new.report) (printed c.args.text.now)
+    written_prefix _ (g.W.Sink.written c.args.report.now) (g.W.Sink.written c.write_bytes.new.report)
+    (printed c.args.text.now)
     (front_part (map printed_byte) (map-append printed_byte) c.args.text.now c.bytes.done 1 (g.W.Sink.written c.args.report.now) (g.W.Sink.written c.bytes.report) (g.W.Sink.written c.write_bytes.new.report)
     c.bytes.invariant.wrote
     (subst (HasWrittenPrefix (g.W.Sink.written c.bytes.report) (g.W.Sink.written c.write_bytes.new.report)) (sym (one_byte printed_byte c.args.text.now c.bytes.done _ c.printed_byte.result c.bytes-test.true c.printed_byte.ensures))
@@ -29,4 +30,5 @@ pub returns-clause-report : goal.returns-clause-report
 returns-clause-report g c =
     let done = c.bytes.invariant in
     writes_done c.args.report.now c.bytes.report _
-    (sink_so_far (printed (take c.bytes.done c.args.text.now)) c.args.report.now c.bytes.report done.wrote done.unfinished done.count) done.count tt
+    (sink_so_far (printed (take c.bytes.done c.args.text.now)) c.args.report.now c.bytes.report done.wrote done.unfinished done.count)
+    done.count tt

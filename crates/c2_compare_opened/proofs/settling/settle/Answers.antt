@@ -47,7 +47,8 @@ pub returns-in-Err-are_same-clause-second : goal.returns-in-Err-are_same-clause-
 returns-in-Err-are_same-clause-second g c = reads_error _ _ _ _ _ _ _ _ _ (λ h. h) c.in-Err-are_same.ensures.second
 
 pub returns-in-Err-are_same-clause-report : goal.returns-in-Err-are_same-clause-report
-returns-in-Err-are_same-clause-report g c = writes_nothing _ _ (unwritten_reading _ _ c.in-Err-are_same.error c.in-Err-are_same.ensures.errors)
+returns-in-Err-are_same-clause-report g c =
+    writes_nothing _ _ (unwritten_reading _ _ c.in-Err-are_same.error c.in-Err-are_same.ensures.errors)
 
 -- ---- all is equal all the same
 
@@ -100,4 +101,5 @@ pub returns-in-Err-write_evidence-clause-second : goal.returns-in-Err-write_evid
 returns-in-Err-write_evidence-clause-second g c = reads_then _ _ _ _ _ _ _ _ _ tt c.in-Ok-are_same.ensures.second
 
 pub returns-in-Err-write_evidence-clause-report : goal.returns-in-Err-write_evidence-clause-report
-returns-in-Err-write_evidence-clause-report g c = writes_error _ _ _ WriteFault (λ h. h) c.in-Err-write_evidence.ensures.report
+returns-in-Err-write_evidence-clause-report g c =
+    writes_error _ _ _ WriteFault (λ h. h) c.in-Err-write_evidence.ensures.report

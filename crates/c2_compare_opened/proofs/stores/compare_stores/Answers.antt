@@ -1,3 +1,4 @@
+use Rattle.c2_compare_spec.proofs.TheLaws.{a_first_difference_is_real_real}
 use Rattle.std.proofs.Common.{Ok, sym, subst}
 use Rattle.c2_compare_spec.specs.declared.compared.Compared.{Compared}
 use Rattle.c2_calls_spec.proofs.SinkLemmas.{writes_error, writes_then}
@@ -11,9 +12,11 @@ use Rattle.c2_compare_opened.proofs.stores.compare_stores.Goals as goal
 -- which is what is answered
 pub returns-in-Ok-clause-compared : goal.returns-in-Ok-clause-compared
 returns-in-Ok-clause-compared g c = λ a known b known' hash said one two.
-    subst (λ (x : Compared). IsComparedAs hash said a b (g.W.Sink.written c.args.report.now) (g.W.Sink.written c.settle.new.report) (Ok x)) (sym c.compared.ensures)
+    subst
+    (λ (x : Compared). IsComparedAs hash said a b (g.W.Sink.written c.args.report.now) (g.W.Sink.written c.settle.new.report) (Ok x))
+    (sym c.compared.ensures)
     (settled_as hash said a b one.store two.store one.accepted two.accepted
-    (λ s t one p q. c.a_first_difference_is_real.ensures.real hash said a b s t one p q) c.args.one.now.summary
+    (λ s t one p q. a_first_difference_is_real_real hash said a b s t one p q) c.args.one.now.summary
     (g.W.Sink.written c.args.report.now) (g.W.Sink.written c.settle.new.report) one.counted c.in-Ok.settled
     (c.in-Ok.ensures.settled a known b known' hash said one two))
 
@@ -32,7 +35,7 @@ returns-in-Ok-clause-report g c = writes_then _ _ _ _ tt c.in-Ok.ensures.report
 pub returns-in-Err-clause-compared : goal.returns-in-Err-clause-compared
 returns-in-Err-clause-compared g c = λ a known b known' hash said one two.
     failed hash said a b one.store two.store one.accepted two.accepted
-    (λ s t one p q. c.a_first_difference_is_real.ensures.real hash said a b s t one p q) c.in-Err.error
+    (λ s t one p q. a_first_difference_is_real_real hash said a b s t one p q) c.in-Err.error
     (g.W.Sink.written c.args.report.now) (g.W.Sink.written c.settle.new.report)
     (c.in-Err.ensures.settled a known b known' hash said one two)
 

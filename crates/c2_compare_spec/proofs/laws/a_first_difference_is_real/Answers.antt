@@ -1,10 +1,8 @@
-use Rattle.c2_compare_spec.proofs.Files.{difference_is_real, lists_are_theirs}
+use Rattle.c2_compare_spec.proofs.TheLaws.{a_first_difference_is_real_real, a_first_difference_is_real_theirs}
 use Rattle.c2_compare_spec.proofs.laws.a_first_difference_is_real.Goals as goal
 
--- by the kind of the pair
 pub returns-clause-real : goal.returns-clause-real
-returns-clause-real c = difference_is_real c.one_item.ensures
+returns-clause-real c = a_first_difference_is_real_real
 
--- and by whose lists it consists of
 pub returns-clause-theirs : goal.returns-clause-theirs
-returns-clause-theirs c = lists_are_theirs c.one_item.ensures
+returns-clause-theirs c = a_first_difference_is_real_theirs

@@ -1,10 +1,8 @@
-use Rattle.c2_compare_spec.proofs.EachComparison.{each_comparison, each_asked}
+use Rattle.c2_compare_spec.proofs.TheLaws.{each_comparison_answer, each_comparison_asks}
 use Rattle.c2_compare_spec.proofs.laws.each_comparison.Goals as goal
 
--- by the answers of both checks
 pub returns-clause-answer : goal.returns-clause-answer
-returns-clause-answer c = each_comparison c.one_item.ensures
+returns-clause-answer c = each_comparison_answer
 
--- and by what they ask
 pub returns-clause-asks : goal.returns-clause-asks
-returns-clause-asks c = each_asked
+returns-clause-asks c = each_comparison_asks

@@ -1,18 +1,14 @@
-use Rattle.c2_compare_spec.proofs.Files.{root_of, forth_of, back_of, redacted_of}
+use Rattle.c2_compare_spec.proofs.TheLaws.{each_reached_manifest_corresponds_active, each_reached_manifest_corresponds_back, each_reached_manifest_corresponds_forth, each_reached_manifest_corresponds_redacted}
 use Rattle.c2_compare_spec.proofs.laws.each_reached_manifest_corresponds.Goals as goal
 
--- the active manifests
 pub returns-clause-active : goal.returns-clause-active
-returns-clause-active c = root_of c.one_item.ensures
+returns-clause-active c = each_reached_manifest_corresponds_active
 
--- those of the first file
 pub returns-clause-forth : goal.returns-clause-forth
-returns-clause-forth c = forth_of c.one_item.ensures
+returns-clause-forth c = each_reached_manifest_corresponds_forth
 
--- those of the second
 pub returns-clause-back : goal.returns-clause-back
-returns-clause-back c = back_of c.one_item.ensures
+returns-clause-back c = each_reached_manifest_corresponds_back
 
--- and their redactions
 pub returns-clause-redacted : goal.returns-clause-redacted
-returns-clause-redacted c = redacted_of c.one_item.ensures
+returns-clause-redacted c = each_reached_manifest_corresponds_redacted

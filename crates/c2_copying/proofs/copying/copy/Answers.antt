@@ -1,9 +1,10 @@
 use Rattle.std.proofs.Common.{◌≡◌, ℕ, take, length, refl, subst, ◌∙◌, arith}
 use Rattle.std.proofs.lemmas.List.{length-take-le}
-use Rattle.c2_copying.specs.Writing.{IsReadCause, IsWriteCause, Puts, ending_of, piece_of}
-use Rattle.c2_copying.proofs.Kept.{reads_then, sink_stays, sink_still, source_stays, writes_then}
+use Rattle.c2_copying.specs.Writing.{IsCopyReadCause, IsCopyWriteCause, Puts, ending_of, piece_of}
+use Rattle.c2_copying.proofs.Kept.{reads_then, sink_stays, sink_still, writes_then}
 use Rattle.c2_copying.proofs.Written.{next_breaks, next_piece, puts_none}
 use Rattle.c2_copying.proofs.copying.copy.Goals as goal
+use Rattle.c2_base.proofs.Written.{source_stays}
 
 -- nothing yet
 pub pieces-init : goal.pieces-init
@@ -21,33 +22,40 @@ pieces-init g c = record {
 pub returns-in-Err-clause-step : goal.returns-in-Err-clause-step
 returns-in-Err-clause-step g c = λ file known.
     let before = c.pieces.invariant in
-    let size : length (take c.min-len.result c.pieces.buf) ≡ c.min-len.result = length-take-le c.min-len.result c.pieces.buf (omega (arith, c.min-len.ensures)) in
+    let size : length (take c.min-len.result c.pieces.buf) ≡ c.min-len.result =
+    length-take-le c.min-len.result c.pieces.buf (omega (arith, c.min-len.ensures)) in
     next_breaks g.K.Sink.written g.K.Sink.spare g.K.Sink.finished file c.args.from c.pieces.at c.args.to c.min-len.result (length (take c.min-len.result c.pieces.buf)) c.args.sink.now c.pieces.sink c.copy_piece.new.sink (ending_of c.in-Err.error)
     before.begun (omega (arith, c.min-len.ensures, before.within, c.pieces-test.true)) size (before.puts file known) (c.in-Err.ensures.step file (before.read.same_bytes ∙ known))
 
 pub returns-in-Err-clause-reads : goal.returns-in-Err-clause-reads
 returns-in-Err-clause-reads g c =
-    reads_then g.S.Source.len g.S.Source.known g.S.Source.faults IsReadCause c.args.source.now c.pieces.source c.copy_piece.new.source _ c.pieces.invariant.read c.pieces.invariant.count c.in-Err.ensures.reads
+    reads_then g.S.Source.len g.S.Source.known g.S.Source.faults IsCopyReadCause c.args.source.now c.pieces.source c.copy_piece.new.source _ c.pieces.invariant.read c.pieces.invariant.count c.in-Err.ensures.reads
 
 pub returns-in-Err-clause-writes : goal.returns-in-Err-clause-writes
 returns-in-Err-clause-writes g c =
-    writes_then g.K.Sink.written g.K.Sink.finished g.K.Sink.faults IsWriteCause c.args.sink.now c.pieces.sink c.copy_piece.new.sink _ c.pieces.invariant.wrote c.pieces.invariant.out_count c.in-Err.ensures.writes
+    writes_then g.K.Sink.written g.K.Sink.finished g.K.Sink.faults IsCopyWriteCause c.args.sink.now c.pieces.sink c.copy_piece.new.sink _ c.pieces.invariant.wrote c.pieces.invariant.out_count c.in-Err.ensures.writes
 
 -- one piece more is written
 pub pieces-preserved : goal.pieces-preserved
 pieces-preserved g c =
     let before = c.pieces.invariant in
     let call = c.in-Ok.ensures in
-    let size : length (take c.min-len.result c.pieces.buf) ≡ c.min-len.result = length-take-le c.min-len.result c.pieces.buf (omega (arith, c.min-len.ensures)) in
+    let size : length (take c.min-len.result c.pieces.buf) ≡ c.min-len.result =
+    length-take-le c.min-len.result c.pieces.buf (omega (arith, c.min-len.ensures)) in
     record {
       begun = omega (arith, before.begun);
       within = omega (arith, c.min-len.ensures, before.within, c.pieces-test.true);
-      read = source_stays g.S.Source.len g.S.Source.known g.S.Source.faults c.args.source.now c.pieces.source c.copy_piece.new.source before.read call.reads.stays;
+      read =
+          source_stays g.S.Source.len g.S.Source.known g.S.Source.faults c.args.source.now c.pieces.source
+          c.copy_piece.new.source before.read call.reads.stays;
       count = call.reads.quiet ∙ before.count;
-      wrote = sink_stays g.K.Sink.written g.K.Sink.finished g.K.Sink.faults c.args.sink.now c.pieces.sink c.copy_piece.new.sink before.wrote call.writes.stays;
+      wrote =
+          sink_stays g.K.Sink.written g.K.Sink.finished g.K.Sink.faults c.args.sink.now c.pieces.sink
+          c.copy_piece.new.sink before.wrote call.writes.stays;
       out_count = call.writes.quiet ∙ before.out_count;
       puts = λ file known.
-          next_piece g.K.Sink.written g.K.Sink.spare g.K.Sink.finished file c.args.from c.pieces.at c.min-len.result (length (take c.min-len.result c.pieces.buf)) c.args.sink.now c.pieces.sink c.copy_piece.new.sink
+          next_piece g.K.Sink.written g.K.Sink.spare g.K.Sink.finished file c.args.from c.pieces.at c.min-len.result
+          (length (take c.min-len.result c.pieces.buf)) c.args.sink.now c.pieces.sink c.copy_piece.new.sink
           before.begun size (before.puts file known) (call.step file (before.read.same_bytes ∙ known));
     }
 
@@ -55,4 +63,6 @@ pieces-preserved g c =
 pub returns-clause-step : goal.returns-clause-step
 returns-clause-step g c = λ file known.
     let end : c.pieces.at ≡ c.args.to = omega (arith, c.pieces.invariant.within, c.pieces-test.false) in
-    subst (λ (n : ℕ). Puts g.K.Sink.written g.K.Sink.spare g.K.Sink.finished (piece_of file c.args.from n) c.args.sink.now c.pieces.sink) end (c.pieces.invariant.puts file known)
+    subst
+    (λ (n : ℕ). Puts g.K.Sink.written g.K.Sink.spare g.K.Sink.finished (piece_of file c.args.from n) c.args.sink.now c.pieces.sink)
+    end (c.pieces.invariant.puts file known)

@@ -1,5 +1,5 @@
 use Rattle.std.proofs.Common.{◌≡◌, ◌∙◌, List, length, subst, sym}
-use Rattle.c2_bmff_boxes.specs.Causes.{IsCaused}
+use Rattle.c2_bmff_boxes.specs.Causes.{IsBmffCaused}
 use Rattle.c2_bmff_rows.specs.declared.row.RootBox.{RootBox}
 use Rattle.c2_cover.specs.Telling.{IsToldBy}
 use Rattle.c2_cover.proofs.BmffTexts.{bmff_cover_of}
@@ -9,12 +9,13 @@ use Rattle.c2_cover.proofs.bmff.bmff_cover.Goals as goal
 pub returns-in-Err-clause-cause : goal.returns-in-Err-clause-cause
 returns-in-Err-clause-cause g c =
     c.matching_error.ensures (g.S.Source.faults c.args.source.now) (g.S.Source.faults c.match_paths.new.source)
-    (subst (λ n. IsCaused n (g.S.Source.faults c.match_paths.new.source) c.in-Err.error) c.in_ok-size.ensures.cause.ok c.in-Err.ensures.cause)
+    (subst (λ n. IsBmffCaused n (g.S.Source.faults c.match_paths.new.source) c.in-Err.error) c.in_ok-size.ensures.cause.ok c.in-Err.ensures.cause)
 
--- the ranges are those of the exclusions, merged, and the words those of the root boxes
+-- the ranges are those of the exclusions, merged, and the box offsets those of the root boxes
 pub returns-clause-cover : goal.returns-clause-cover
 returns-clause-cover g c file known boxes has rows =
-    let len : length file ≡ c.in_ok-size.size = g.met.S.Source.known_len c.args.source.now file known ∙ sym c.in_ok-size.ensures.length in
+    let len : length file ≡ c.in_ok-size.size =
+    g.met.S.Source.known_len c.args.source.now file known ∙ sym c.in_ok-size.ensures.length in
     bmff_cover_of file boxes c.args.roots.now c.args.entries.now c.in_ok-size.size _ c.in-Ok.ranges c.in_ok-cover.cover c.in_ok-told.told len c.in_ok-cover.ensures.cover
     (c.as_mut_slice.ensures.value ∙ c.in_ok-sorted.ensures.items ∙ c.as_slice.ensures)
     (subst (λ (rs : List RootBox). IsToldBy rs c.in_ok-cover.cover c.in_ok-told.told) c.as_slice-2.ensures.boxes c.in_ok-told.ensures)

@@ -12,7 +12,11 @@ loop-index-init c = record { inside = omega arith; others = bad_all c.args.size 
 pub loop-index-preserved : goal.loop-index-preserved
 loop-index-preserved c = record {
   inside = omega arith;
-  others = bad_step c.args.size c.loop-index.end c.loop-index.index c.args.ranges.now _ (drop-cons c.args.ranges.now c.loop-index.index (range 0 0) c.loop-index-test.true) (omega arith) (omega arith) ∙ c.loop-index.invariant.others;
+  others =
+      bad_step c.args.size c.loop-index.end c.loop-index.index c.args.ranges.now _
+      (drop-cons c.args.ranges.now c.loop-index.index (range 0 0) c.loop-index-test.true) (omega arith)
+      (omega arith)
+      ∙ c.loop-index.invariant.others;
 }
 
 -- a range that begins before the last end or ends after the file is the first bad one

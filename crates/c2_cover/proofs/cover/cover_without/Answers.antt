@@ -17,5 +17,5 @@ merged-requires c =
 -- the merged ranges exclude what the given ones do in their old order, so they make the cover
 pub returns-clause-cover : goal.returns-clause-cover
 returns-clause-cover c =
-    cover_of c.args.size c.args.ranges.now _ _ c.new-words.ensures.items
+    cover_of c.args.size c.args.ranges.now _ _ c.new-offsets.ensures.items
     (λ i. c.in_ok-ranges.ensures.same i ∙ sym (list_any-IsPermutation (holds i) c.args.ranges.now c.sort_unstable_by_key.new.self c.sort_unstable_by_key.ensures.permutation))

@@ -18,10 +18,13 @@ loop-range-preserved c =
 
 -- with the last open range, the ranges rise in the file, apart from each other, and none is empty
 pub returns-clause-merged : goal.returns-clause-merged
-returns-clause-merged c = rw c.in_ok-close-2.ensures (open_merged c.args.size c.loop-range.done.items c.loop-range.held c.loop-range.invariant.merged c.loop-range.invariant.below c.loop-range.invariant.inside)
+returns-clause-merged c =
+    rw c.in_ok-close-2.ensures
+    (open_merged c.args.size c.loop-range.done.items c.loop-range.held c.loop-range.invariant.merged c.loop-range.invariant.below c.loop-range.invariant.inside)
 
 -- with the last open range, they exclude a position just when the given ranges do
 pub returns-clause-same : goal.returns-clause-same
 returns-clause-same c i =
-    ap (λ rs. is_excluded rs i) c.in_ok-close-2.ensures ∙ open_same c.loop-range.done.items c.loop-range.held i ∙ c.loop-range.invariant.same i
+    ap (λ rs. is_excluded rs i) c.in_ok-close-2.ensures ∙ open_same c.loop-range.done.items c.loop-range.held i
+    ∙ c.loop-range.invariant.same i
     ∙ ap (λ rs. is_excluded rs i) (take_all c.loop-range.range-index c.args.ranges.now c.loop-range-test.false)

@@ -10,7 +10,8 @@ pieces-init g c = record {
   stays = record { same_len = refl; same_bytes = refl; later = omega arith };
   count = refl;
   held = ([], c.start-state.ensures);
-  hashed = λ file known. record { prefix = []; held = c.start-state.ensures; joined = sym (c.new-reader.ensures.text file) };
+  hashed =
+      λ file known. record { prefix = []; held = c.start-state.ensures; joined = sym (c.new-reader.ensures.text file) };
 }
 
 -- with one piece more hashed, what is hashed and what is still to come are the covered text
@@ -21,15 +22,20 @@ pieces-preserved g c =
     record {
       room = omega (arith, before.room, c.next.auto.buf);
       size = before.size ∙ sym call.same_size;
-      stays = record { same_len = call.stays.same_len ∙ before.stays.same_len; same_bytes = call.stays.same_bytes ∙ before.stays.same_bytes; later = omega (arith, call.stays.later, before.stays.later) };
+      stays =
+          record
+          { same_len = call.stays.same_len ∙ before.stays.same_len; same_bytes = call.stays.same_bytes ∙ before.stays.same_bytes; later = omega (arith, call.stays.later, before.stays.later) };
       count = call.cause.ok ∙ before.count;
-      held = (before.held.0 ++ take c.in_ok-count.count c.next.new.buf, c.update.ensures c.args.alg before.held.0 before.held.1);
+      held =
+          (before.held.0 ++ take c.in_ok-count.count c.next.new.buf, c.update.ensures c.args.alg before.held.0 before.held.1);
       hashed = λ file known.
           let h = before.hashed file known in
           record {
             prefix = h.prefix ++ take c.in_ok-count.count c.next.new.buf;
             held = c.update.ensures c.args.alg h.prefix h.held;
-            joined = h.joined ∙ ap (λ xs. h.prefix ++ xs) (call.piece.piece file (before.stays.same_bytes ∙ known)) ∙ sym (append_assoc h.prefix _ _);
+            joined =
+                h.joined ∙ ap (λ xs. h.prefix ++ xs) (call.piece.piece file (before.stays.same_bytes ∙ known))
+                ∙ sym (append_assoc h.prefix _ _);
           };
     }
 
@@ -37,8 +43,10 @@ pieces-preserved g c =
 pub returns-clause-digest : goal.returns-clause-digest
 returns-clause-digest g c file known =
     let h = c.pieces.invariant.hashed file known in
-    let end = c.in_ok-count.ensures.piece.nothing c.if-count-eq0.true file (c.pieces.invariant.stays.same_bytes ∙ known) in
-    c.finish.ensures _ _ h.held ∙ ap (g.H.Hashing.digest_of c.args.alg) (sym (h.joined ∙ ap (λ xs. h.prefix ++ xs) end ∙ append-nil h.prefix))
+    let end =
+    c.in_ok-count.ensures.piece.nothing c.if-count-eq0.true file (c.pieces.invariant.stays.same_bytes ∙ known) in
+    c.finish.ensures _ _ h.held
+    ∙ ap (g.H.Hashing.digest_of c.args.alg) (sym (h.joined ∙ ap (λ xs. h.prefix ++ xs) end ∙ append-nil h.prefix))
 
 -- the digest of whatever was hashed has the algorithm's length
 pub returns-clause-len : goal.returns-clause-len

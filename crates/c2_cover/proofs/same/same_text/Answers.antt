@@ -11,13 +11,16 @@ returns-then-count-eq0-clause-same g c file known copy known2 =
     let before = c.pieces.invariant in
     let one = before.first_stays.same_bytes ∙ known in
     let two = before.second_stays.same_bytes ∙ known2 in
-    let lies : Lies c.in_ok-mine.mine (length c.refill.new.buf) = rw c.refill.auto.buf c.in_ok-mine.ensures.filled.lies in
-    let lies2 : Lies c.in_ok-theirs.theirs (length c.refill-in-pieces.new.buf) = rw c.refill-in-pieces.auto.buf c.in_ok-theirs.ensures.filled.lies in
+    let lies : Lies c.in_ok-mine.mine (length c.refill.new.buf) =
+    rw c.refill.auto.buf c.in_ok-mine.ensures.filled.lies in
+    let lies2 : Lies c.in_ok-theirs.theirs (length c.refill-in-pieces.new.buf) =
+    rw c.refill-in-pieces.auto.buf c.in_ok-theirs.ensures.filled.lies in
     let left : List ℕ = unread c.in_ok-mine.mine c.refill.new.buf c.refill.new.reader file in
     let right : List ℕ = unread c.in_ok-theirs.theirs c.refill-in-pieces.new.buf c.refill-in-pieces.new.reader copy in
     let now : bytes_eq (text_of c.args.cover.now file) (text_of c.args.other.now copy) ≡ bytes_eq left right =
     before.same file known copy known2
-    ∙ ap (λ xs. bytes_eq xs (unread c.pieces.theirs c.pieces.right c.pieces.two copy)) (sym (c.in_ok-mine.ensures.filled.same file one))
+    ∙ ap (λ xs. bytes_eq xs (unread c.pieces.theirs c.pieces.right c.pieces.two copy))
+    (sym (c.in_ok-mine.ensures.filled.same file one))
     ∙ ap (λ ys. bytes_eq left ys) (sym (c.in_ok-theirs.ensures.filled.same copy two)) in
     ended_at c.in_ok-mine.mine c.in_ok-theirs.theirs c.refill.new.buf c.refill-in-pieces.new.buf c.refill.new.reader
     c.refill-in-pieces.new.reader file copy lies lies2 (sym c.min-count.ensures ∙ c.if-count-eq0.true)
@@ -32,7 +35,8 @@ returns-then-count-eq0-clause-lengths g c e =
     let o = mine.lies.ordered in
     let k = theirs.lies.ordered in
     let both = both_none _ _ (sym c.min-count.ensures ∙ c.if-count-eq0.true) e in
-    omega (arith, c.pieces.invariant.lengths, mine.left, theirs.left, mine.none (omega (arith, o, both.0)), theirs.none (omega (arith, k, both.1)), both.0, both.1)
+    omega
+    (arith, c.pieces.invariant.lengths, mine.left, theirs.left, mine.none (omega (arith, o, both.0)), theirs.none (omega (arith, k, both.1)), both.0, both.1)
 
 -- covered texts that differ in the bytes compared here aren't equal
 pub returns-then-not-same_slices-clause-same : goal.returns-then-not-same_slices-clause-same
@@ -40,13 +44,16 @@ returns-then-not-same_slices-clause-same g c file known copy known2 =
     let before = c.pieces.invariant in
     let one = before.first_stays.same_bytes ∙ known in
     let two = before.second_stays.same_bytes ∙ known2 in
-    let lies : Lies c.in_ok-mine.mine (length c.refill.new.buf) = rw c.refill.auto.buf c.in_ok-mine.ensures.filled.lies in
-    let lies2 : Lies c.in_ok-theirs.theirs (length c.refill-in-pieces.new.buf) = rw c.refill-in-pieces.auto.buf c.in_ok-theirs.ensures.filled.lies in
+    let lies : Lies c.in_ok-mine.mine (length c.refill.new.buf) =
+    rw c.refill.auto.buf c.in_ok-mine.ensures.filled.lies in
+    let lies2 : Lies c.in_ok-theirs.theirs (length c.refill-in-pieces.new.buf) =
+    rw c.refill-in-pieces.auto.buf c.in_ok-theirs.ensures.filled.lies in
     let left : List ℕ = unread c.in_ok-mine.mine c.refill.new.buf c.refill.new.reader file in
     let right : List ℕ = unread c.in_ok-theirs.theirs c.refill-in-pieces.new.buf c.refill-in-pieces.new.reader copy in
     let now : bytes_eq (text_of c.args.cover.now file) (text_of c.args.other.now copy) ≡ bytes_eq left right =
     before.same file known copy known2
-    ∙ ap (λ xs. bytes_eq xs (unread c.pieces.theirs c.pieces.right c.pieces.two copy)) (sym (c.in_ok-mine.ensures.filled.same file one))
+    ∙ ap (λ xs. bytes_eq xs (unread c.pieces.theirs c.pieces.right c.pieces.two copy))
+    (sym (c.in_ok-mine.ensures.filled.same file one))
     ∙ ap (λ ys. bytes_eq left ys) (sym (c.in_ok-theirs.ensures.filled.same copy two)) in
     let mine = c.in_ok-mine.mine in
     let theirs = c.in_ok-theirs.theirs in
@@ -76,8 +83,12 @@ pieces-preserved g c =
       right_len = len2 ∙ before.right_len;
       size = before.size ∙ sym mine.same_size;
       other_size = before.other_size ∙ sym theirs.same_size;
-      mine = record { ordered = omega (arith, c.min-count.ensures, mine.filled.lies.ordered); inside = omega (arith, len, mine.filled.lies.inside) };
-      theirs = record { ordered = omega (arith, c.min-count.ensures, theirs.filled.lies.ordered); inside = omega (arith, len2, theirs.filled.lies.inside) };
+      mine =
+          record
+          { ordered = omega (arith, c.min-count.ensures, mine.filled.lies.ordered); inside = omega (arith, len, mine.filled.lies.inside) };
+      theirs =
+          record
+          { ordered = omega (arith, c.min-count.ensures, theirs.filled.lies.ordered); inside = omega (arith, len2, theirs.filled.lies.inside) };
       first_stays = record {
         same_len = mine.stays.same_len ∙ before.first_stays.same_len;
         same_bytes = mine.stays.same_bytes ∙ before.first_stays.same_bytes;
@@ -90,18 +101,24 @@ pieces-preserved g c =
       };
       first_count = mine.cause.ok ∙ before.first_count;
       second_count = theirs.cause.ok ∙ before.second_count;
-      lengths = omega (arith, before.lengths, mine.filled.left, theirs.filled.left, c.min-count.ensures, mine.filled.lies.ordered, theirs.filled.lies.ordered);
+      lengths =
+          omega
+          (arith, before.lengths, mine.filled.left, theirs.filled.left, c.min-count.ensures, mine.filled.lies.ordered, theirs.filled.lies.ordered);
       same = λ file known copy known2.
           let before = c.pieces.invariant in
           let one = before.first_stays.same_bytes ∙ known in
           let two = before.second_stays.same_bytes ∙ known2 in
-          let lies : Lies c.in_ok-mine.mine (length c.refill.new.buf) = rw c.refill.auto.buf c.in_ok-mine.ensures.filled.lies in
-          let lies2 : Lies c.in_ok-theirs.theirs (length c.refill-in-pieces.new.buf) = rw c.refill-in-pieces.auto.buf c.in_ok-theirs.ensures.filled.lies in
+          let lies : Lies c.in_ok-mine.mine (length c.refill.new.buf) =
+          rw c.refill.auto.buf c.in_ok-mine.ensures.filled.lies in
+          let lies2 : Lies c.in_ok-theirs.theirs (length c.refill-in-pieces.new.buf) =
+          rw c.refill-in-pieces.auto.buf c.in_ok-theirs.ensures.filled.lies in
           let left : List ℕ = unread c.in_ok-mine.mine c.refill.new.buf c.refill.new.reader file in
-          let right : List ℕ = unread c.in_ok-theirs.theirs c.refill-in-pieces.new.buf c.refill-in-pieces.new.reader copy in
+          let right : List ℕ =
+          unread c.in_ok-theirs.theirs c.refill-in-pieces.new.buf c.refill-in-pieces.new.reader copy in
           let now : bytes_eq (text_of c.args.cover.now file) (text_of c.args.other.now copy) ≡ bytes_eq left right =
           before.same file known copy known2
-          ∙ ap (λ xs. bytes_eq xs (unread c.pieces.theirs c.pieces.right c.pieces.two copy)) (sym (c.in_ok-mine.ensures.filled.same file one))
+          ∙ ap (λ xs. bytes_eq xs (unread c.pieces.theirs c.pieces.right c.pieces.two copy))
+          (sym (c.in_ok-mine.ensures.filled.same file one))
           ∙ ap (λ ys. bytes_eq left ys) (sym (c.in_ok-theirs.ensures.filled.same copy two)) in
           let mine = c.in_ok-mine.mine in
           let theirs = c.in_ok-theirs.theirs in

@@ -7,4 +7,6 @@ use Rattle.c2_definition.proofs.assertions.assertions_of.Given as goal
 
 -- the assertions so far, and those of the items that are left
 abbrev pub invariant-loop-item : goal.invariant-loop-item
-invariant-loop-item l = each_of assertion_of (items_view l.items) ≡ and_then_all l.assertions.items (each_of assertion_of (items_view (drop l.item-index l.items)))
+invariant-loop-item l =
+    each_of assertion_of (items_view l.items) ≡ and_then_all l.assertions.items
+    (each_of assertion_of (items_view (drop l.item-index l.items)))

@@ -6,4 +6,5 @@ use Rattle.c2_definition.proofs.keys.are_fields.Given as goal
 
 -- the keys so far pass
 abbrev pub invariant-loop-key : goal.invariant-loop-key
-invariant-loop-key l = keys_pass is_field (members_view l.members.entries) ≡ keys_pass is_field (members_view l.key-iterator)
+invariant-loop-key l =
+    keys_pass is_field (members_view l.members.entries) ≡ keys_pass is_field (members_view l.key-iterator)

@@ -7,4 +7,6 @@ use Rattle.c2_definition.proofs.members.texts_of.Given as goal
 
 -- the texts so far, and those of the items that are left
 abbrev pub invariant-loop-item : goal.invariant-loop-item
-invariant-loop-item l = each_of as_str (items_view l.items) ≡ and_then_all l.texts.items (each_of as_str (items_view (drop l.item-index l.items)))
+invariant-loop-item l =
+    each_of as_str (items_view l.items) ≡ and_then_all l.texts.items
+    (each_of as_str (items_view (drop l.item-index l.items)))

@@ -19,7 +19,7 @@ returns-clause-found g c = λ file known m media_is b has.
     let own = c.args.own.now in
     let name = c.in-Some.name.now in
     let item = view c.in-Ok-Some.item in
-    bound_item c.one_item.ensures hash m own file name (option_map (λ x. x.now) c.binding_item.result) (option_map view c.in-Ok-Some.field-0) item b c.check_read.result (sym c.binding_label.ensures ∙ ap (option_map (λ x. x.now)) c.in-Some.is) c.binding_item.ensures c.in-Ok-Some.ensures
+    bound_item hash m own file name (option_map (λ x. x.now) c.binding_item.result) (option_map view c.in-Ok-Some.field-0) item b c.check_read.result (sym c.binding_label.ensures ∙ ap (option_map (λ x. x.now)) c.in-Some.is) c.binding_item.ensures c.in-Ok-Some.ensures
     (ap (option_map view) c.in-Ok-Some.field-0-is)
     (λ x binds. subst (λ (k : Kind). IfOk c.check_read.result (IsItemBound hash own (assertion_uri (label_in own) name) k file x)) c.label_kind.ensures
     (c.check_read.ensures.found file known c.label_kind.result x c.read-read.ensures.code (c.read-read.ensures.fields file m media_is x (subst (λ (k : Kind). IsBinding m k item x) (sym c.label_kind.ensures) binds)))) has

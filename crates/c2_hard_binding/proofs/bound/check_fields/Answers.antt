@@ -21,7 +21,8 @@ returns-then-not-is_digest-clause-found g c = λ file known kind b coded comes.
     let own = c.args.own.now in
     let uri = assertion_uri (label_in own) c.args.name.now in
     let tests = bound_tests hash own uri kind (Ok b) in
-    found_fails c.fails-then-not-is_digest.result tests own file (Some (Ok b)) (record { code = c.mismatch.result; uri = uri })
+    found_fails c.fails-then-not-is_digest.result tests own file (Some (Ok b))
+    (record { code = c.mismatch.result; uri = uri })
     (digest_other tests uri kind c.is_digest.result c.mismatch.result
     (digested hash own uri kind file c.args.fields.now b c.alg.result.now c.known_alg.result c.in-Some.alg c.in-Ok.cover _ c.hash.result.now c.is_digest.result comes c.alg.ensures c.known_alg.ensures c.in-Some.is (c.in-Ok.ensures.cover file known b comes)
     (c.in-Ok-covered_digest.ensures.digest file (c.in-Ok.ensures.reads.stays.same_bytes ∙ known)) c.hash.ensures c.is_digest.ensures)

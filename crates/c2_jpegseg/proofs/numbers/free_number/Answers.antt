@@ -10,17 +10,22 @@ use Rattle.c2_jpegseg.proofs.numbers.free_number.Goals as goal
 
 pub returns-then-size-ge-FILE_LEN_LIMIT-clause-fault : goal.returns-then-size-ge-FILE_LEN_LIMIT-clause-fault
 returns-then-size-ge-FILE_LEN_LIMIT-clause-fault g c file known =
-    let size : length file ≡ c.in_ok-size.size = g.met.S.Source.known_len c.args.source.now file known ∙ sym c.in_ok-size.ensures.length in
+    let size : length file ≡ c.in_ok-size.size =
+    g.met.S.Source.known_len c.args.source.now file known ∙ sym c.in_ok-size.ensures.length in
     subst (λ n. SegmentsFault file (FileTooLarge n)) size (too_large (omega arith))
 
 pub is_jpeg-requires-clause-shows : goal.is_jpeg-requires-clause-shows
 is_jpeg-requires-clause-shows g c =
-    subst (λ n. Shows n (g.S.Source.known c.size.new.self) c.in_ok-window.window) (c.in_ok-size.ensures.length ∙ sym c.in_ok-size.ensures.stays.same_len) (c.in_ok-window.ensures (g.S.Source.known c.size.new.self))
+    subst (λ n. Shows n (g.S.Source.known c.size.new.self) c.in_ok-window.window)
+    (c.in_ok-size.ensures.length ∙ sym c.in_ok-size.ensures.stays.same_len)
+    (c.in_ok-window.ensures (g.S.Source.known c.size.new.self))
 
 pub returns-then-not-branch-clause-fault : goal.returns-then-not-branch-clause-fault
 returns-then-not-branch-clause-fault g c file known =
-    let size : length file ≡ c.in_ok-size.size = g.met.S.Source.known_len c.args.source.now file known ∙ sym c.in_ok-size.ensures.length in
-    not_media (omega arith) (subst (IsBegun file) c.if-not-branch.true (c.in_ok-is_jpeg.ensures.begun file (c.in_ok-size.ensures.stays.same_bytes ∙ known)))
+    let size : length file ≡ c.in_ok-size.size =
+    g.met.S.Source.known_len c.args.source.now file known ∙ sym c.in_ok-size.ensures.length in
+    not_media (omega arith)
+    (subst (IsBegun file) c.if-not-branch.true (c.in_ok-is_jpeg.ensures.begun file (c.in_ok-size.ensures.stays.same_bytes ∙ known)))
 
 pub returns-clause-number : goal.returns-clause-number
 returns-clause-number g c file known =

@@ -32,7 +32,9 @@ returns-in_err-extent-clause-fault g c =
     let p = err_from_is_err_and c.from_residual.result c.from_residual.ensures.1 in
     rw (p.1, p.2) (λ file known.
     let size : length file ≡ g.S.Source.len c.args.source.now = g.met.S.Source.known_len c.args.source.now file known in
-    or_outside-map c.in_err-extent.field-0.0 (MarkerFault c.segments.at (drop c.segments.at file) c.in_err-extent.field-0.0) (SegmentsFault file c.in_err-extent.field-0.0)
+    or_outside-map c.in_err-extent.field-0.0
+    (MarkerFault c.segments.at (drop c.segments.at file) c.in_err-extent.field-0.0)
+    (SegmentsFault file c.in_err-extent.field-0.0)
     (passes-refuse file c.args.skip c.segments.at (IsFront c.segments.front) c.in_err-extent.field-0.0 (omega (arith, size, c.requires.start.whole, c.requires.start.bounded)) (before.passes file known))
     (c.in_err-extent.ensures.read.next file (before.stays.same_bytes ∙ known)))
 
@@ -55,7 +57,8 @@ segments-preserved-then-not-is_inside g c =
       passes = λ file known.
           let extent = next file (before.stays.same_bytes ∙ known) in
           let s = segment_of extent.fill file c.in-Segment.extent in
-          let test : false ≡ is_inside c.args.skip c.segments.at c.in-Segment.extent.end = sym c.if-not-is_inside.true ∙ c.is_inside.ensures in
+          let test : false ≡ is_inside c.args.skip c.segments.at c.in-Segment.extent.end =
+          sym c.if-not-is_inside.true ∙ c.is_inside.ensures in
           passes-next file c.args.skip c.segments.at (IsFront c.segments.front) (IsFront c.grown-front.result) c.in-Segment.extent (before.passes file known) extent
           (λ ss m. subst (λ b. IsFront c.grown-front.result (ss ++ kept_with b s [])) test
           (c.grown-front.ensures.front ss s refl (extent_len file c.segments.at c.in-Segment.extent extent) m));
@@ -80,7 +83,8 @@ segments-preserved g c =
       passes = λ file known.
           let extent = next file (before.stays.same_bytes ∙ known) in
           let s = segment_of extent.fill file c.in-Segment.extent in
-          let test : true ≡ is_inside c.args.skip c.segments.at c.in-Segment.extent.end = sym c.if-not-is_inside.false ∙ c.is_inside.ensures in
+          let test : true ≡ is_inside c.args.skip c.segments.at c.in-Segment.extent.end =
+          sym c.if-not-is_inside.false ∙ c.is_inside.ensures in
           passes-next file c.args.skip c.segments.at (IsFront c.segments.front) (IsFront c.segments.front) c.in-Segment.extent (before.passes file known) extent
           (λ ss m. subst (λ b. IsFront c.segments.front (ss ++ kept_with b s [])) test (subst (IsFront c.segments.front) (sym (append-nil ss)) m));
     }

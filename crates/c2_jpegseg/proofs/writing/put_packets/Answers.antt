@@ -11,7 +11,8 @@ pub packets-init : goal.packets-init
 packets-init g c =
     let count : c.packet_count-count.result ≡ packet_count (length c.args.store.now) = c.packet_count-count.ensures in
     let behind = drop 8 c.args.store.now in
-    let back : take (length c.args.store.now - 8) behind ≡ behind = take_all _ _ (omega (arith, length-drop 8 c.args.store.now)) in
+    let back : take (length c.args.store.now - 8) behind ≡ behind =
+    take_all _ _ (omega (arith, length-drop 8 c.args.store.now)) in
     let one : c.packet_count-count.result + 1 - 1 ≡ packet_count (length c.args.store.now) = omega (arith, count) in
     record {
       some = omega arith;

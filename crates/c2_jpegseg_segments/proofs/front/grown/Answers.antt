@@ -8,7 +8,9 @@ use Rattle.c2_jpegseg_segments.proofs.front.grown.Goals as goal
 
 pub returns-then-marker-eq-APP0-clause-front : goal.returns-then-marker-eq-APP0-clause-front
 returns-then-marker-eq-APP0-clause-front c ss s marker size front =
-    front_goes_on c.args.front c.args.len ss s (and_from c.args.front.only (s.marker == APP0) c.if-front.true (eq-eqb s.marker APP0 (marker ∙ c.if-marker-eq-APP0.true))) size front
+    front_goes_on c.args.front c.args.len ss s
+    (and_from c.args.front.only (s.marker == APP0) c.if-front.true (eq-eqb s.marker APP0 (marker ∙ c.if-marker-eq-APP0.true)))
+    size front
 
 pub returns-clause-front : goal.returns-clause-front
 returns-clause-front c ss s marker size front =

@@ -1,7 +1,8 @@
+use Rattle.c2_jpegseg_segments.proofs.TheLaws.{a_located_file_is_segments_none, a_located_file_is_segments_store}
 use Rattle.c2_jpegseg_segments.proofs.laws.a_located_file_is_segments.Goals as goal
 
 pub returns-clause-store : goal.returns-clause-store
-returns-clause-store c = λ file start len store h. (h.segments, record { fits = h.fits; rest = h.rest; begins = h.begins; ends = h.ends })
+returns-clause-store c = a_located_file_is_segments_store
 
 pub returns-clause-none : goal.returns-clause-none
-returns-clause-none c = λ file h. (h.segments, record { fits = h.fits; rest = h.rest; begins = h.begins; ends = h.ends })
+returns-clause-none c = a_located_file_is_segments_none

@@ -13,7 +13,8 @@ returns-then-first-clause-begun g c file known =
     let size : length file ≡ g.S.Source.len c.args.source.now = g.met.S.Source.known_len c.args.source.now file known in
     let first = c.in_ok-first.ensures.byte file known in
     let second = c.in_ok-second.ensures.byte file (c.in_ok-first.ensures.stays.same_bytes ∙ known) in
-    begun_is file c.in_ok-first.first c.in_ok-second.second _ (omega arith) first second (sym (ap (λ n. eqb n 255 && eqb c.in_ok-second.second 216) c.if-first.true))
+    begun_is file c.in_ok-first.first c.in_ok-second.second _ (omega arith) first second
+    (sym (ap (λ n. eqb n 255 && eqb c.in_ok-second.second 216) c.if-first.true))
 
 pub returns-else-first-clause-begun : goal.returns-else-first-clause-begun
 returns-else-first-clause-begun g c file known =
@@ -21,4 +22,5 @@ returns-else-first-clause-begun g c file known =
     let first = c.in_ok-first.ensures.byte file known in
     let second = c.in_ok-second.ensures.byte file (c.in_ok-first.ensures.stays.same_bytes ∙ known) in
     let other = ne_eqb c.in_ok-first.first 255 c.if-first.false in
-    begun_is file c.in_ok-first.first c.in_ok-second.second _ (omega arith) first second (other ∙ sym (ap (λ t. t && eqb c.in_ok-second.second 216) other))
+    begun_is file c.in_ok-first.first c.in_ok-second.second _ (omega arith) first second
+    (other ∙ sym (ap (λ t. t && eqb c.in_ok-second.second 216) other))

@@ -9,10 +9,12 @@ pub returns-in_default-clause-ok : goal.returns-in_default-clause-ok
 returns-in_default-clause-ok c = λ file s. begin-no_packet file c.args.at c.args.end c.args.packet s c.in_default.is
 
 pub returns-then-not-is_first-clause-ok : goal.returns-then-not-is_first-clause-ok
-returns-then-not-is_first-clause-ok c = λ file s. begin-other file c.args.at c.args.end c.args.packet c.in-Some.first s c.in-Some.is (sym c.if-not-is_first.ensures)
+returns-then-not-is_first-clause-ok c =
+    λ file s. begin-other file c.args.at c.args.end c.args.packet c.in-Some.first s c.in-Some.is (sym c.if-not-is_first.ensures)
 
 pub returns-clause-ok : goal.returns-clause-ok
-returns-clause-ok c = λ file s. begin-start file c.args.at c.args.end c.args.packet c.in-Some.first _ s c.in-Some.is (sym c.if-not-is_first.ensures) c.in_ok-start.ensures.passes c.in_ok-start.ensures.started
+returns-clause-ok c =
+    λ file s. begin-start file c.args.at c.args.end c.args.packet c.in-Some.first _ s c.in-Some.is (sym c.if-not-is_first.ensures) c.in_ok-start.ensures.passes c.in_ok-start.ensures.started
 
 pub returns-in_err-start-clause-err : goal.returns-in_err-start-clause-err
 returns-in_err-start-clause-err c =

@@ -10,6 +10,12 @@ pub returns-clause-point : goal.returns-clause-point
 returns-clause-point c file size small h can =
     let skip : Range = range_of c.args.found.now in
     record {
-      place = has-place file skip c.args.kept.now.front c.min-start.result (omega (arith, size, small)) (kept-front file skip c.args.kept.now h) (λ le. omega (arith, le, size, c.taken_len-taken.ensures, c.saturating_sub-left.ensures, c.min-start.ensures)) can;
-      number = has-number file skip c.args.kept.now.marks c.least_free-number.result (omega (arith, size, small)) (kept-marks file skip c.args.kept.now h) c.least_free-number.ensures can;
+      place =
+          has-place file skip c.args.kept.now.front c.min-start.result (omega (arith, size, small))
+          (kept-front file skip c.args.kept.now h)
+          (λ le. omega (arith, le, size, c.taken_len-taken.ensures, c.saturating_sub-left.ensures, c.min-start.ensures))
+          can;
+      number =
+          has-number file skip c.args.kept.now.marks c.least_free-number.result (omega (arith, size, small))
+          (kept-marks file skip c.args.kept.now h) c.least_free-number.ensures can;
     }

@@ -6,4 +6,4 @@ pub returns-clause-found : goal.returns-clause-found
 returns-clause-found g c file known = said_is file (found_in c.search.result) (c.search.ensures.found file known)
 
 pub returns-clause-only : goal.returns-clause-only
-returns-clause-only g c file known = only_said c.each_file_is_located.ensures.once file (found_in c.search.result) (c.search.ensures.found file known)
+returns-clause-only g c file known = only_said file (found_in c.search.result) (c.search.ensures.found file known)

@@ -43,7 +43,10 @@ returns-in_err-taken-clause-walked g c file known =
     let known' = before.stays.same_bytes ∙ known in
     let next = rw c.in-Segment.is at c.in_ok-extent.ensures.read.next in
     let size : length file ≡ g.S.Source.len c.args.source.now = g.met.S.Source.known_len c.args.source.now file known in
-    let shows = shows_same Shows _ (length file) _ (Some file) _ (c.in_ok-extent.ensures.stays.same_len ∙ before.stays.same_len ∙ sym size) (c.in_ok-extent.ensures.stays.same_bytes ∙ known') c.in_ok-load_packet.ensures.shows in
+    let shows =
+    shows_same Shows _ (length file) _ (Some file) _
+    (c.in_ok-extent.ensures.stays.same_len ∙ before.stays.same_len ∙ sym size)
+    (c.in_ok-extent.ensures.stays.same_bytes ∙ known') c.in_ok-load_packet.ensures.shows in
     let p = err_from_is_err_and c.from_residual-in_err-taken.result c.from_residual-in_err-taken.ensures.1 in
     rw (p.1, p.2) (c.in_err-taken.ensures.err file (record { extent = c.in-Segment.extent; walks = before.walks file known; stands = next file known'; ends = refl; packet_is = c.packet_at-packet.ensures.packet file shows }))
 
@@ -62,18 +65,28 @@ segments-preserved g c =
         later = omega (arith, load.stays.later, found.stays.later, before.stays.later);
       };
       count = load.cause.ok ∙ found.read.count ∙ before.count;
-      shows = shows_same Shows _ _ _ _ _ (found.stays.same_len ∙ before.stays.same_len) (found.stays.same_bytes ∙ before.stays.same_bytes) load.shows;
+      shows =
+          shows_same Shows _ _ _ _ _ (found.stays.same_len ∙ before.stays.same_len)
+          (found.stays.same_bytes ∙ before.stays.same_bytes) load.shows;
       before = c.in_ok-taken.ensures.ends;
       most = omega (arith, c.pass.ensures.most, before.most, by.later);
       walks = λ file known.
           let known' = before.stays.same_bytes ∙ known in
-          let size : length file ≡ g.S.Source.len c.args.source.now = g.met.S.Source.known_len c.args.source.now file known in
-          let shows = shows_same Shows _ (length file) _ (Some file) _ (found.stays.same_len ∙ before.stays.same_len ∙ sym size) (found.stays.same_bytes ∙ known') load.shows in
+          let size : length file ≡ g.S.Source.len c.args.source.now =
+          g.met.S.Source.known_len c.args.source.now file known in
+          let shows =
+          shows_same Shows _ (length file) _ (Some file) _
+          (found.stays.same_len ∙ before.stays.same_len ∙ sym size) (found.stays.same_bytes ∙ known')
+          load.shows in
           c.in_ok-taken.ensures.ok file (record { extent = c.in-Segment.extent; walks = before.walks file known; stands = next file known'; ends = refl; packet_is = c.packet_at-packet.ensures.packet file shows });
       passes = λ file known.
           let known' = before.stays.same_bytes ∙ known in
-          let size : length file ≡ g.S.Source.len c.args.source.now = g.met.S.Source.known_len c.args.source.now file known in
-          let shows = shows_same Shows _ (length file) _ (Some file) _ (found.stays.same_len ∙ before.stays.same_len ∙ sym size) (found.stays.same_bytes ∙ known') load.shows in
+          let size : length file ≡ g.S.Source.len c.args.source.now =
+          g.met.S.Source.known_len c.args.source.now file known in
+          let shows =
+          shows_same Shows _ (length file) _ (Some file) _
+          (found.stays.same_len ∙ before.stays.same_len ∙ sym size) (found.stays.same_bytes ∙ known')
+          load.shows in
           let extent = next file known' in
           let s = segment_of extent.fill file c.in-Segment.extent in
           run-goes c.in_ok-taken.taken file c.segments.at (all_collected c.segments.run) (all_collected c.step.new.run) c.in-Segment.extent (IsKept c.segments.kept) (IsKept c.pass.new.self) (before.passes file known) (before.walks file known) extent c.in_ok-taken.ensures.goes
@@ -85,7 +98,9 @@ returns-in_default-run-clause-walked g c file known =
     let before = c.segments.invariant in
     let next = rw c.in_default.is at c.in_ok-extent.ensures.read.next in
     let size : length file ≡ g.S.Source.len c.args.source.now = g.met.S.Source.known_len c.args.source.now file known in
-    no-store file c.segments.at (omega arith) (subst (λ r. Walks file c.segments.at (all_collected r)) c.in_default-run.is (before.walks file known)) (next file (before.stays.same_bytes ∙ known))
+    no-store file c.segments.at (omega arith)
+    (subst (λ r. Walks file c.segments.at (all_collected r)) c.in_default-run.is (before.walks file known))
+    (next file (before.stays.same_bytes ∙ known))
 
 pub returns-then-len-run-clause-walked : goal.returns-then-len-run-clause-walked
 returns-then-len-run-clause-walked g c file known =
@@ -108,7 +123,9 @@ returns-in_default-run-clause-kept g c file known =
     let next = rw c.in_default.is at c.in_ok-extent.ensures.read.next in
     record {
       at = c.segments.at;
-      passes = subst (λ r. Passes file (run_range (all_collected r)) c.segments.at (IsKept c.segments.kept)) c.in_default-run.is (before.passes file known);
+      passes =
+          subst (λ r. Passes file (run_range (all_collected r)) c.segments.at (IsKept c.segments.kept))
+          c.in_default-run.is (before.passes file known);
       ends = next file (before.stays.same_bytes ∙ known);
     }
 
@@ -119,6 +136,8 @@ returns-clause-kept g c file known =
     let next = rw c.in_default.is at c.in_ok-extent.ensures.read.next in
     record {
       at = c.segments.at;
-      passes = subst (λ r. Passes file (run_range (all_collected r)) c.segments.at (IsKept c.segments.kept)) c.in-Some.is (before.passes file known);
+      passes =
+          subst (λ r. Passes file (run_range (all_collected r)) c.segments.at (IsKept c.segments.kept)) c.in-Some.is
+          (before.passes file known);
       ends = next file (before.stays.same_bytes ∙ known);
     }

@@ -17,5 +17,6 @@ lines-preserved c =
     let added = on_success c.add_row.result (sym c.is_err.ensures.value ∙ c.if-is_err.false) c.add_row.ensures in
     record {
       room = omega arith;
-      read = (read.0 ++ c.in-Some.row ∷ [], progress_more _ _ _ _ _ _ _ _ _ read.1 some c.split_line.ensures row.0 row.1 added);
+      read =
+          (read.0 ++ c.in-Some.row ∷ [], progress_more _ _ _ _ _ _ _ _ _ read.1 some c.split_line.ensures row.0 row.1 added);
     }

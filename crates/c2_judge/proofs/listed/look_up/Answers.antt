@@ -6,4 +6,6 @@ use Rattle.c2_judge.proofs.listed.look_up.Goals as goal
 
 -- an id is a SHA-256 digest, which has 32 bytes
 pub copy_from_slice-requires : goal.copy_from_slice-requires
-copy_from_slice-requires c = sym (ap length (c.as_slice.ensures ∙ c.question_id.ensures) ∙ (sha-IsDigest Sha256 (question_bytes c.args.q.now)).sized)
+copy_from_slice-requires c =
+    sym
+    (ap length (c.as_slice.ensures ∙ c.question_id.ensures) ∙ (sha-IsDigest Sha256 (question_bytes c.args.q.now)).sized)

@@ -15,7 +15,8 @@ returns-in_err-verdict-clause-asks g c =
     (record {
       answer = tt;
       asked = tt;
-      failed = (c.loop-i.i, failed_at c.loop-i.i _ _ _ _ _ _ _ _ same (simp length-map (omega arith)) so_far.size so_far.asked one.counted so_far.faults one.cause);
+      failed =
+          (c.loop-i.i, failed_at c.loop-i.i _ _ _ _ _ _ _ _ same (simp length-map (omega arith)) so_far.size so_far.asked one.counted so_far.faults one.cause);
       cause = SomeRose-at c.loop-i.i _ _ _ (simp length-map (omega arith)) so_far.faults one.cause;
     })
 
@@ -27,7 +28,8 @@ returns-in_err-verdict-clause-leaves g c =
     rw p.1
     (record {
       same = one.same ∙ so_far.same;
-      asked_later = counted_none_fell (c.loop-i.i + 1) _ _ (MovedBelow-more Counted c.loop-i.i _ _ _ so_far.asked one.counted);
+      asked_later =
+          counted_none_fell (c.loop-i.i + 1) _ _ (MovedBelow-more Counted c.loop-i.i _ _ _ so_far.asked one.counted);
       faults_later = failing_none_fell c.loop-i.i _ _ _ so_far.faults one.cause;
       ok = tt;
     })

@@ -8,4 +8,5 @@ use Rattle.c2_jumbf.proofs.boxes.contents.Goals as goal
 
 pub returns : goal.returns
 returns c = take_rest c.bytes_of.result.now c.row_at-header.result.header ∙ ap (λ (r : Row). drop r.header c.bytes_of.result.now) c.row_at-header.ensures.row
-    ∙ ap (drop (head_len (any_wide (box_at c.args.tree.now c.args.i).box))) c.bytes_of.ensures.bytes ∙ any_behind (box_at c.args.tree.now c.args.i).box
+    ∙ ap (drop (head_len (any_wide (box_at c.args.tree.now c.args.i).box))) c.bytes_of.ensures.bytes
+    ∙ any_behind (box_at c.args.tree.now c.args.i).box

@@ -17,7 +17,11 @@ slice_bounds-copy_from_slice-end-2 c = omega (
 )
 
 pub copy_from_slice-requires : goal.copy_from_slice-requires
-copy_from_slice-requires c = sym (length-take-le 16 c.in-Some.payload.now (omega (arith, payload_long (box_at c.args.tree.now c.args.i).box c.in-Some.payload.now c.in-Some.ensures.found)))
+copy_from_slice-requires c =
+    sym
+    (length-take-le 16 c.in-Some.payload.now (omega (arith, payload_long (box_at c.args.tree.now c.args.i).box c.in-Some.payload.now c.in-Some.ensures.found)))
 
 pub returns : goal.returns
-returns c = uuid_here (box_at c.args.tree.now c.args.i).box c.in-Some.payload.now _ c.in-Some.ensures.found c.copy_from_slice.ensures.after
+returns c =
+    uuid_here (box_at c.args.tree.now c.args.i).box c.in-Some.payload.now _ c.in-Some.ensures.found
+    c.copy_from_slice.ensures.after

@@ -13,8 +13,11 @@ loop-label-preserved c =
     (rw c.into_iter-label-iterator.ensures.into_iter_gives c.split-label-items.ensures.text)
     (rw c.into_iter-label-iterator.ensures.into_iter_gives c.split-label-items.ensures.has_more)
     (rw c.into_iter-label-iterator.ensures.into_iter_gives c.split-label-items.ensures.pattern) in
-    let turn = YieldsList-turn road c.loop-label.yielded _ c.loop-label.yielded_by _ _ c.in-Some.label c.in-Some.is c.next.ensures.steps in
-    let n : length c.loop-label.yielded + 1 ≡ length (c.loop-label.yielded ++ c.in-Some.label ∷ []) = sym (length_push c.loop-label.yielded c.in-Some.label) in
+    let turn =
+    YieldsList-turn road c.loop-label.yielded _ c.loop-label.yielded_by _ _ c.in-Some.label c.in-Some.is
+    c.next.ensures.steps in
+    let n : length c.loop-label.yielded + 1 ≡ length (c.loop-label.yielded ++ c.in-Some.label ∷ []) =
+    sym (length_push c.loop-label.yielded c.in-Some.label) in
     record {
       can = tt;
       ends = tt;
@@ -28,7 +31,9 @@ returns-in-None-labelled_child-clause-none c =
     (rw c.into_iter-label-iterator.ensures.into_iter_gives c.split-label-items.ensures.text)
     (rw c.into_iter-label-iterator.ensures.into_iter_gives c.split-label-items.ensures.has_more)
     (rw c.into_iter-label-iterator.ensures.into_iter_gives c.split-label-items.ensures.pattern) in
-    let turn = YieldsList-turn road c.loop-label.yielded _ c.loop-label.yielded_by _ _ c.in-Some.label c.in-Some.is c.next.ensures.steps in
+    let turn =
+    YieldsList-turn road c.loop-label.yielded _ c.loop-label.yielded_by _ _ c.in-Some.label c.in-Some.is
+    c.next.ensures.steps in
     walked_none c.args.tree.now c.args.start (path_labels c.args.path.now) (length c.loop-label.yielded) c.loop-label.at c.in-Some.label.now c.loop-label.invariant.walked turn c.in-None-labelled_child.ensures.none
 
 pub returns-in-None-labelled_child-clause-only : goal.returns-in-None-labelled_child-clause-only
@@ -37,7 +42,9 @@ returns-in-None-labelled_child-clause-only c = λ i lead.
     (rw c.into_iter-label-iterator.ensures.into_iter_gives c.split-label-items.ensures.text)
     (rw c.into_iter-label-iterator.ensures.into_iter_gives c.split-label-items.ensures.has_more)
     (rw c.into_iter-label-iterator.ensures.into_iter_gives c.split-label-items.ensures.pattern) in
-    let turn = YieldsList-turn road c.loop-label.yielded _ c.loop-label.yielded_by _ _ c.in-Some.label c.in-Some.is c.next.ensures.steps in
+    let turn =
+    YieldsList-turn road c.loop-label.yielded _ c.loop-label.yielded_by _ _ c.in-Some.label c.in-Some.is
+    c.next.ensures.steps in
     absurd (walked_none c.args.tree.now c.args.start (path_labels c.args.path.now) (length c.loop-label.yielded) c.loop-label.at c.in-Some.label.now c.loop-label.invariant.walked turn c.in-None-labelled_child.ensures.none i lead)
 
 pub returns-clause-found : goal.returns-clause-found
@@ -46,8 +53,10 @@ returns-clause-found c =
     (rw c.into_iter-label-iterator.ensures.into_iter_gives c.split-label-items.ensures.text)
     (rw c.into_iter-label-iterator.ensures.into_iter_gives c.split-label-items.ensures.has_more)
     (rw c.into_iter-label-iterator.ensures.into_iter_gives c.split-label-items.ensures.pattern) in
-    let end = YieldsList-end road c.loop-label.yielded _ c.loop-label.yielded_by _ _ c.in-None.is c.next.ensures.steps in
-    walked_end c.args.tree.now c.args.start (path_labels c.args.path.now) (length c.loop-label.yielded) c.loop-label.at c.loop-label.invariant.walked end.1
+    let end =
+    YieldsList-end road c.loop-label.yielded _ c.loop-label.yielded_by _ _ c.in-None.is c.next.ensures.steps in
+    walked_end c.args.tree.now c.args.start (path_labels c.args.path.now) (length c.loop-label.yielded) c.loop-label.at
+    c.loop-label.invariant.walked end.1
 
 pub returns-clause-only : goal.returns-clause-only
 returns-clause-only c =
@@ -55,6 +64,8 @@ returns-clause-only c =
     (rw c.into_iter-label-iterator.ensures.into_iter_gives c.split-label-items.ensures.text)
     (rw c.into_iter-label-iterator.ensures.into_iter_gives c.split-label-items.ensures.has_more)
     (rw c.into_iter-label-iterator.ensures.into_iter_gives c.split-label-items.ensures.pattern) in
-    let end = YieldsList-end road c.loop-label.yielded _ c.loop-label.yielded_by _ _ c.in-None.is c.next.ensures.steps in
-    only_lead c.args.tree.now c.args.start (path_labels c.args.path.now) c.loop-label.at c.requires (legal_here c.tree.inside.bytes.now c.tree.inside.rows.items c.tree.inside.parsed c.args.tree.now c.tree.view_is)
+    let end =
+    YieldsList-end road c.loop-label.yielded _ c.loop-label.yielded_by _ _ c.in-None.is c.next.ensures.steps in
+    only_lead c.args.tree.now c.args.start (path_labels c.args.path.now) c.loop-label.at c.requires
+    (legal_here c.tree.inside.bytes.now c.tree.inside.rows.items c.tree.inside.parsed c.args.tree.now c.tree.view_is)
     (walked_end c.args.tree.now c.args.start (path_labels c.args.path.now) (length c.loop-label.yielded) c.loop-label.at c.loop-label.invariant.walked end.1)

@@ -10,4 +10,6 @@ returns-in-Some-clause-err c = (
 )
 
 pub returns-clause-ok : goal.returns-clause-ok
-returns-clause-ok c = sorted_settles c.args.siblings.marks.items c.sort_unstable.new.self.items c.as_slice.result.now None c.sort_unstable.ensures.permutation c.sort_unstable.ensures.sorted c.as_slice.ensures.value c.in-None.ensures
+returns-clause-ok c =
+    sorted_settles c.args.siblings.marks.items c.sort_unstable.new.self.items c.as_slice.result.now None
+    c.sort_unstable.ensures.permutation c.sort_unstable.ensures.sorted c.as_slice.ensures.value c.in-None.ensures

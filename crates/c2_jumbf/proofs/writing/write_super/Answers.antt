@@ -10,5 +10,7 @@ pub returns-then-total-gt-MAX_STORE_LEN-clause-err : goal.returns-then-total-gt-
 returns-then-total-gt-MAX_STORE_LEN-clause-err c =
     let a = c.saturating_add.ensures in
     let b = c.saturating_add-total.ensures in
-    let n : min (super_size c.args.label.now c.args.contents.now) (2 ^ 64 - 1) ≡ c.saturating_add-total.result = omega (arith, a, b) in
-    inr (subst (λ k. SuperRefused c.args.label.now c.args.contents.now (TooLarge k)) n (SuperRefused.too_large c.if-not-is_written_label.ensures.good (omega (arith, a, b))))
+    let n : min (super_size c.args.label.now c.args.contents.now) (2 ^ 64 - 1) ≡ c.saturating_add-total.result =
+    omega (arith, a, b) in
+    inr
+    (subst (λ k. SuperRefused c.args.label.now c.args.contents.now (TooLarge k)) n (SuperRefused.too_large c.if-not-is_written_label.ensures.good (omega (arith, a, b))))

@@ -14,6 +14,7 @@ cond-or false false = refl
 -- the set has what it had, and this label
 pub returns : goal.returns
 returns c = λ other.
-    btree_set_updates_text (string_bytes c.in_ok-text.text) c.args.labels.now.texts c.insert.new.self true c.in_ok-insert.ensures.updates other
+    btree_set_updates_text (string_bytes c.in_ok-text.text) c.args.labels.now.texts c.insert.new.self true
+    c.in_ok-insert.ensures.updates other
     ∙ cond-or (bytes_eq (string_bytes c.in_ok-text.text) other) (is_among c.args.labels.now other)
     ∙ ap (λ s. is_among c.args.labels.now other || bytes_eq s other) c.in_ok-text.ensures.ok

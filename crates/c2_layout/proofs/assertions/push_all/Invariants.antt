@@ -1,6 +1,6 @@
 use Rattle.std.proofs.Common.{◌≡◌, ◌++◌, drop, map}
 use Rattle.c2_spec.specs.Jumbf.Tree.{trees_bytes}
-use Rattle.c2_new_store_spec.specs.Store.{assertion_boxes, entry_of}
+use Rattle.c2_new_file_spec.specs.Store.{assertion_boxes, entry_of}
 use Rattle.c2_layout.proofs.assertions.push_all.Given as goal
 
 -- with the boxes and the references that are left, there will be all

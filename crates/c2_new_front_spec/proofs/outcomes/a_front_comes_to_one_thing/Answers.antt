@@ -1,20 +1,8 @@
-use Rattle.c2_new_front_spec.proofs.OneOutcome.{one_file, one_plan}
+use Rattle.c2_new_front_spec.proofs.TheLaws.{a_front_comes_to_one_thing_made, a_front_comes_to_one_thing_plan}
 use Rattle.c2_new_front_spec.proofs.outcomes.a_front_comes_to_one_thing.Goals as goal
 
--- each stage comes to one thing: those of a plan
 pub returns-clause-plan : goal.returns-clause-plan
-returns-clause-plan c = one_plan (record {
-  definition = c.each_definition_is_read_one_way.ensures.one;
-  item = c.one_item.ensures;
-  refused = c.each_message_is_accepted_or_refused_for_one_test.ensures;
-  fills = c.a_message_fills_its_reserve_or_needs_more.ensures;
-})
+returns-clause-plan c = a_front_comes_to_one_thing_plan
 
--- and those of a new file
 pub returns-clause-made : goal.returns-clause-made
-returns-clause-made c = one_file (record {
-  definition = c.each_definition_is_read_one_way.ensures.one;
-  item = c.one_item.ensures;
-  refused = c.each_message_is_accepted_or_refused_for_one_test.ensures;
-  fills = c.a_message_fills_its_reserve_or_needs_more.ensures;
-})
+returns-clause-made c = a_front_comes_to_one_thing_made

@@ -3,8 +3,8 @@ use Rattle.c2_spec.specs.Cbor.Item.{Item}
 use Rattle.c2_spec.specs.Cbor.View.{view, pairs_view}
 use Rattle.c2_spec.specs.declared.cbor.Cbor.{Cbor}
 use Rattle.c2_new_signature.specs.Tested.{EntriesTested, HeaderTested}
-use Rattle.c2_new_signature.proofs.HeaderEntries.{view-Map}
 use Rattle.c2_new_signature.proofs.reading.header_fault.Goals as goal
+use Rattle.c2_cbor_spec.proofs.Views.{view-Map}
 
 -- a map is tested by its entries
 pub returns-in-Map : goal.returns-in-Map

@@ -18,4 +18,6 @@ returns-in-None-clause-accepted c =
 
 -- bytes that are no message
 pub returns-in-Err-Form-clause-refused : goal.returns-in-Err-Form-clause-refused
-returns-in-Err-Form-clause-refused c = form_fails c.args.protected.now c.args.bytes.now c.in-Err-Form.field-0 c.in-Err-Form.field-0-is (omega arith) c.in-Err-Form.ensures.form
+returns-in-Err-Form-clause-refused c =
+    form_fails c.args.protected.now c.args.bytes.now c.in-Err-Form.field-0 c.in-Err-Form.field-0-is (omega arith)
+    c.in-Err-Form.ensures.form

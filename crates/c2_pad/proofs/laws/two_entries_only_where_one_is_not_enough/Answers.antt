@@ -1,5 +1,5 @@
-use Rattle.c2_pad.proofs.Exact.{two_where_needed}
+use Rattle.c2_pad.proofs.TheLaws.{two_entries_only_where_one_is_not_enough}
 use Rattle.c2_pad.proofs.laws.two_entries_only_where_one_is_not_enough.Goals as goal
 
 pub returns : goal.returns
-returns c = two_where_needed
+returns c = two_entries_only_where_one_is_not_enough

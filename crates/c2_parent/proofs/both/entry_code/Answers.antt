@@ -9,4 +9,5 @@ returns-in-Ok c = λ redacts h.
 
 -- one does
 pub returns-in-Err : goal.returns-in-Err
-returns-in-Err c = λ redacts h. rule_refuses c.args.own.now c.args.text.now c.args.old.now c.args.other.now redacts c.in-Err.code c.in-Err.ensures.refused
+returns-in-Err c =
+    λ redacts h. rule_refuses c.args.own.now c.args.text.now c.args.old.now c.args.other.now redacts c.in-Err.code c.in-Err.ensures.refused

@@ -15,7 +15,9 @@ returns-in-Some c =
 -- one that isn't
 pub loop-k-preserved : goal.loop-k-preserved
 loop-k-preserved c =
-    both_more c.args.own.now c.args.old.now c.args.other.now c.args.redact.now c.loop-k.k c.loop-k.before c.add_named.new.named c.index-redact-k.result c.entry_code.result c.loop-k.invariant c.loop-k-test.true c.index-redact-k.is
+    both_more c.args.own.now c.args.old.now c.args.other.now c.args.redact.now c.loop-k.k c.loop-k.before
+    c.add_named.new.named c.index-redact-k.result c.entry_code.result c.loop-k.invariant c.loop-k-test.true
+    c.index-redact-k.is
     (same_text c.args.own.now c.args.old.now c.args.other.now c.loop-k.before c.as_str.result.now c.index-redact-k.result c.entry_code.result c.as_str.ensures.value c.entry_code.ensures)
     c.in_default.is
     (λ m l. c.in_ok-add_named.ensures m l ∙ ap (λ (x : List ℕ). is_among c.loop-k.before m l || names_assertion m l (uri_of x)) c.as_str-in-loop-k.ensures.value)

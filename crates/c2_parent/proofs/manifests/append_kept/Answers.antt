@@ -1,7 +1,7 @@
 use Rattle.std.proofs.Common.{◌≡◌, ◌++◌, ◌∙◌, append-nil, sym}
 use Rattle.c2_spec.specs.Jumbf.Boxes.{box_at}
 use Rattle.c2_spec.specs.Jumbf.Tree.{trees_bytes}
-use Rattle.c2_parent_spec.specs.Redacting.{without}
+use Rattle.c2_new_file_spec.specs.Redacting.{without}
 use Rattle.c2_parent.specs.Boxes.{any_boxes}
 use Rattle.c2_parent.specs.Named.{is_among}
 use Rattle.c2_parent.proofs.Steps.{kept_step}
@@ -11,11 +11,15 @@ use Rattle.c2_parent.proofs.manifests.append_kept.Goals as goal
 pub loop-at-preserved : goal.loop-at-preserved
 loop-at-preserved c =
     let out = is_among c.args.named.now c.args.manifest.now in
-    kept_step c.args.tree.now c.loop-at.at c.after-end.result c.after-next.result c.loop-at.out.items c.append_unless_lost.new.out.items (c.args.out.now.items ++ trees_bytes (without out (any_boxes (box_at c.args.tree.now c.args.i).box))) out
+    kept_step c.args.tree.now c.loop-at.at c.after-end.result c.after-next.result c.loop-at.out.items
+    c.append_unless_lost.new.out.items
+    (c.args.out.now.items ++ trees_bytes (without out (any_boxes (box_at c.args.tree.now c.args.i).box))) out
     c.loop-at.invariant c.loop-at-test.true c.in_ok-append_unless_lost.ensures c.after-next.ensures.after
 
 pub returns : goal.returns
 returns c =
     let out = is_among c.args.named.now c.args.manifest.now in
     sym (append-nil c.loop-at.out.items)
-    ∙ no_more_boxes c.args.tree.now c.loop-at.at c.after-end.result (λ r. c.loop-at.out.items ++ trees_bytes (without out r) ≡ c.args.out.now.items ++ trees_bytes (without out (any_boxes (box_at c.args.tree.now c.args.i).box))) c.loop-at.invariant c.loop-at-test.false
+    ∙ no_more_boxes c.args.tree.now c.loop-at.at c.after-end.result
+    (λ r. c.loop-at.out.items ++ trees_bytes (without out r) ≡ c.args.out.now.items ++ trees_bytes (without out (any_boxes (box_at c.args.tree.now c.args.i).box)))
+    c.loop-at.invariant c.loop-at-test.false

@@ -5,7 +5,9 @@ use Rattle.c2_parent.specs.Named.{is_among}
 use Rattle.c2_parent.proofs.manifests.lost_in_manifest.Given as goal
 
 abbrev pub invariant-loop-at : goal.invariant-loop-at
-invariant-loop-at l = ToCome l.tree l.at l.end (λ r. lost_in_store (is_among l.named l.manifest) r ≡ lost_in_store (is_among l.named l.manifest) (any_boxes (box_at l.tree l.i).box))
+invariant-loop-at l =
+    ToCome l.tree l.at l.end
+    (λ r. lost_in_store (is_among l.named l.manifest) r ≡ lost_in_store (is_among l.named l.manifest) (any_boxes (box_at l.tree l.i).box))
 
 abbrev pub decreases-loop-at : goal.decreases-loop-at
 decreases-loop-at l = l.end - l.at

@@ -1,5 +1,5 @@
 use Rattle.std.proofs.Common.{◌∙◌, ap, List, ℕ}
-use Rattle.c2_parent_spec.specs.Refusing.{entry_tests}
+use Rattle.c2_new_file_spec.specs.Refusing.{entry_tests}
 use Rattle.c2_parent.specs.Refused.{code_of}
 use Rattle.c2_parent.proofs.RefusedLemmas.{pass_ends, same_refused}
 use Rattle.c2_parent.proofs.refused.first_refused.Goals as goal

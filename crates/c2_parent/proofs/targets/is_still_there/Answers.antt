@@ -3,7 +3,8 @@ use Rattle.c2_parent.proofs.RefusedLemmas.{not_there, still_here, unreached}
 use Rattle.c2_parent.proofs.targets.is_still_there.Goals as goal
 
 pub returns-in_default : goal.returns-in_default
-returns-in_default c = λ redacts h. not_there c.args.all.now redacts c.args.manifest.now c.args.label.now c.requires.differ (sym c.place_of.ensures ∙ c.in_default.is)
+returns-in_default c =
+    λ redacts h. not_there c.args.all.now redacts c.args.manifest.now c.args.label.now c.requires.differ (sym c.place_of.ensures ∙ c.in_default.is)
 
 pub returns-then-is_reached : goal.returns-then-is_reached
 returns-then-is_reached c = λ redacts h.

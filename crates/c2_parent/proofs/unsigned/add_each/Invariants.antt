@@ -9,4 +9,6 @@ use Rattle.c2_parent.proofs.unsigned.add_each.Given as goal
 
 -- since the start, what the first `k` boxes name so came in
 abbrev pub invariant-loop-k : goal.invariant-loop-k
-invariant-loop-k l = (label : List ℕ) → is_among l.labels label ≡ (is_among l.initial.labels label || list_any (λ (b : ReadBox). passes_some (bytes_eq label) (unsigned_in b)) (take l.k l.found))
+invariant-loop-k l =
+    (label : List ℕ) → is_among l.labels label
+    ≡ (is_among l.initial.labels label || list_any (λ (b : ReadBox). passes_some (bytes_eq label) (unsigned_in b)) (take l.k l.found))

@@ -7,4 +7,5 @@ use Rattle.c2_read_manifests.proofs.labelled.places_of.Goals as goal
 pub returns : goal.returns
 returns c =
     let end : c.loop-i.i ≡ length c.args.kept.now = omega (arith, c.loop-i-test.false, c.loop-i.auto.i-end) in
-    all_placed c.args.kept.now c.loop-i.places (subst (λ (n : ℕ). ArePlaces (labels_of (take n c.args.kept.now)) c.loop-i.places) end c.loop-i.invariant)
+    all_placed c.args.kept.now c.loop-i.places
+    (subst (λ (n : ℕ). ArePlaces (labels_of (take n c.args.kept.now)) c.loop-i.places) end c.loop-i.invariant)

@@ -1,10 +1,5 @@
-use Rattle.c2_read_manifests.proofs.Messages.{each_question}
+use Rattle.c2_read_manifests.proofs.TheLaws.{each_manifest_has_a_question_or_not}
 use Rattle.c2_read_manifests.proofs.laws.each_manifest_has_a_question_or_not.Goals as goal
 
--- a manifest of bytes that a program can hold has a question, or none
 pub returns : goal.returns
-returns c = each_question (record {
-  one_item = c.one_item.ensures;
-  each_list = λ s h. c.each_list_is_an_item_or_not.ensures.some s h.bytes h.short;
-  never_both = λ s h. c.each_list_is_an_item_or_not.ensures.one s h.bytes h.short;
-}) c.each_item_is_a_message_or_not.ensures
+returns c = each_manifest_has_a_question_or_not

@@ -7,7 +7,8 @@ use Rattle.c2_read_manifests.proofs.reading.read_ingredient_box.Goals as goal
 
 -- a box that is none of an ingredient has no ingredient
 pub returns-then-not-is_ingredient : goal.returns-then-not-is_ingredient
-returns-then-not-is_ingredient c = reads_other c.args.b.now c.is_ingredient.result c.is_ingredient.ensures c.if-not-is_ingredient.true
+returns-then-not-is_ingredient c =
+    reads_other c.args.b.now c.is_ingredient.result c.is_ingredient.ensures c.if-not-is_ingredient.true
 
 -- one of an ingredient is read as its payload is
 pub returns-in-Some : goal.returns-in-Some
@@ -16,4 +17,6 @@ returns-in-Some c = reads_here_ok c.args.b.now c.is_ingredient.result c.in-Some.
 
 -- without a payload it has none
 pub returns-in-None : goal.returns-in-None
-returns-in-None c = reads_nothing c.args.b.now c.is_ingredient.result c.is_ingredient.ensures c.if-not-is_ingredient.false (sym c.in-None.ensures)
+returns-in-None c =
+    reads_nothing c.args.b.now c.is_ingredient.result c.is_ingredient.ensures c.if-not-is_ingredient.false
+    (sym c.in-None.ensures)

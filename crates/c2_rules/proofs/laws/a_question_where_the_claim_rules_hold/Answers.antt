@@ -1,5 +1,5 @@
-use Rattle.c2_rules.proofs.ClaimLemmas.{claim_rules_ask, asked_passes}
 use Rattle.c2_rules.proofs.laws.a_question_where_the_claim_rules_hold.Goals as goal
+use Rattle.c2_rules.proofs.ClaimLemmas.{asked_passes, claim_rules_ask}
 
 pub returns-clause-asks : goal.returns-clause-asks
 returns-clause-asks c = claim_rules_ask

@@ -8,5 +8,7 @@ loop-i-init c = record { so_far = media_first c.in_ok-bytes.bytes.items c.in_ok-
 -- and then one more
 pub loop-i-preserved : goal.loop-i-preserved
 loop-i-preserved c = record {
-  so_far = media_next c.loop-i.bytes.items c.push_piece.new.bytes.items c.loop-i.i c.loop-i.invariant.so_far c.in_ok-push_piece.ensures;
+  so_far =
+      media_next c.loop-i.bytes.items c.push_piece.new.bytes.items c.loop-i.i c.loop-i.invariant.so_far
+      c.in_ok-push_piece.ensures;
 }

@@ -8,13 +8,17 @@ use Rattle.c2_sample.proofs.sampling.store_len.Goals as goal
 -- the store that was found has this length
 pub returns-in-Ok-Here-clause-length : goal.returns-in-Ok-Here-clause-length
 returns-in-Ok-Here-clause-length c =
-    let found = subst (IsFound (sure_bytes c.args.source.now)) c.in-Ok-Here.field-0-is (c.in-Ok-Here.ensures.found (sure_bytes c.args.source.now) refl) in
+    let found =
+    subst (IsFound (sure_bytes c.args.source.now)) c.in-Ok-Here.field-0-is
+    (c.in-Ok-Here.ensures.found (sure_bytes c.args.source.now) refl) in
     (located_of (opened.Here c.in-Ok-Here.media), found.located, ap length c.as_slice.ensures.value)
 
 -- a file that is refused has none
 pub returns-in-Ok-Refused-clause-length : goal.returns-in-Ok-Refused-clause-length
 returns-in-Ok-Refused-clause-length c =
-    let found = subst (IsFound (sure_bytes c.args.source.now)) c.in-Ok-Refused.field-0-is (c.in-Ok-Refused.ensures.found (sure_bytes c.args.source.now) refl) in
+    let found =
+    subst (IsFound (sure_bytes c.args.source.now)) c.in-Ok-Refused.field-0-is
+    (c.in-Ok-Refused.ensures.found (sure_bytes c.args.source.now) refl) in
     (located_of (opened.Refused c.in-Ok-Refused.field-0-0 c.in-Ok-Refused.field-0-1), found.located, refl)
 
 -- no error of the search is a fault

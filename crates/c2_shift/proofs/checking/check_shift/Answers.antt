@@ -10,7 +10,8 @@ use Rattle.c2_shift.proofs.checking.check_shift.Goals as goal
 pub check_table-requires : goal.check_table-requires
 check_table-requires g c =
     let before = c.tables.invariant in
-    record { inside = omega (arith, ends_in before.apart.0 (g.S.Source.len c.args.source.now) 0 c.tables.rest.now no_table before.apart.1 (omega (arith, c.tables-test.true)), before.stays.same_len) }
+    record
+    { inside = omega (arith, ends_in before.apart.0 (g.S.Source.len c.args.source.now) 0 c.tables.rest.now no_table before.apart.1 (omega (arith, c.tables-test.true)), before.stays.same_len) }
 
 -- the first field of this table that doesn't fit is the first of all
 pub returns-in-Err-clause-overflow : goal.returns-in-Err-clause-overflow

@@ -6,7 +6,8 @@ use Rattle.c2_shift.proofs.reading.add_table.Goals as goal
 
 -- a box of another type adds none
 pub returns-then-not-is_table_kind-clause-apart : goal.returns-then-not-is_table_kind-clause-apart
-returns-then-not-is_table_kind-clause-apart g c low h l = stand_higher 0 low (c.args.row.start + c.args.row.length) c.args.tables.now.items (omega (arith, l)) h
+returns-then-not-is_table_kind-clause-apart g c low h l =
+    stand_higher 0 low (c.args.row.start + c.args.row.length) c.args.tables.now.items (omega (arith, l)) h
 
 -- one more table
 pub returns-in_ok-push-in-Ok-Some-clause-apart : goal.returns-in_ok-push-in-Ok-Some-clause-apart

@@ -10,15 +10,17 @@ use Rattle.c2_bmff_chunks.specs.declared.table.ChunkTable.{ChunkTable}
 use Rattle.c2_bmff_chunks.specs.declared.table.ShiftError.{ShiftError}
 use Rattle.c2_shift.specs.Causes.{IsTablesCause}
 use Rattle.c2_shift.specs.Walking.{LieIn}
-use Rattle.c2_shift.proofs.Calls.{reads_failed, source_stays}
+use Rattle.c2_shift.proofs.Calls.{reads_failed}
 use Rattle.c2_shift.proofs.BoxLemmas.{among_step, fill_step, first_of_all, lie_step, no_row, outside_map, row_lies, siblings_step}
 use Rattle.c2_shift.proofs.reading.add_tables.Goals as goal
+use Rattle.c2_base.proofs.Written.{source_stays}
 
 -- the next row lies in the source
 pub add_table-requires : goal.add_table-requires
 add_table-requires g c =
     let before = c.rows.invariant in
-    record { inside = subst (λ n. IsRowWithin n (get_or c.rows.rest.now 0 no_row)) (sym before.stays.same_len) (row_lies (g.S.Source.len c.args.source.now) c.rows.rest.now (omega (arith, c.rows-test.true)) before.lie) }
+    record
+    { inside = subst (λ n. IsRowWithin n (get_or c.rows.rest.now 0 no_row)) (sym before.stays.same_len) (row_lies (g.S.Source.len c.args.source.now) c.rows.rest.now (omega (arith, c.rows-test.true)) before.lie) }
 
 -- what is refused of this row is refused first
 pub returns-in-Err-clause-refused : goal.returns-in-Err-clause-refused
@@ -43,14 +45,21 @@ rows-preserved g c =
     let some : 0 < length rest = omega (arith, c.rows-test.true) in
     let next = take_rest rest 1 in
     record {
-      lie = subst (LieIn (g.S.Source.len c.args.source.now)) (sym next) (lie_step (g.S.Source.len c.args.source.now) rest some before.lie);
-      stays = source_stays g.S.Source.len g.S.Source.known g.S.Source.faults c.args.source.now c.rows.source c.add_table.new.source before.stays call.reads.stays;
+      lie =
+          subst (LieIn (g.S.Source.len c.args.source.now)) (sym next)
+          (lie_step (g.S.Source.len c.args.source.now) rest some before.lie);
+      stays =
+          source_stays g.S.Source.len g.S.Source.known g.S.Source.faults c.args.source.now c.rows.source
+          c.add_table.new.source before.stays call.reads.stays;
       count = call.reads.quiet ∙ before.count;
       refusals = λ file known.
-          before.refusals file known ∙ siblings_step file rest some ∙ ap (λ (xs : List ShiftError). xs ++ flat_map (sibling_refusals file) (drop 1 rest)) (call.passed file (before.stays.same_bytes ∙ known)).0
+          before.refusals file known ∙ siblings_step file rest some
+          ∙ ap (λ (xs : List ShiftError). xs ++ flat_map (sibling_refusals file) (drop 1 rest))
+          (call.passed file (before.stays.same_bytes ∙ known)).0
           ∙ ap (flat_map (sibling_refusals file)) (sym next);
       tables = λ file known.
-          ap₂ (λ (xs : List ChunkTable) (rows : List RootBox). xs ++ tables_among file rows) (call.passed file (before.stays.same_bytes ∙ known)).1 next
+          ap₂ (λ (xs : List ChunkTable) (rows : List RootBox). xs ++ tables_among file rows)
+          (call.passed file (before.stays.same_bytes ∙ known)).1 next
           ∙ append_assoc c.rows.tables.items (tables_among file (r ∷ [])) (tables_among file (drop 1 rest))
           ∙ ap (λ (xs : List ChunkTable). c.rows.tables.items ++ xs) (sym (among_step file rest some)) ∙ before.tables file known;
       apart = λ low high fill stand.

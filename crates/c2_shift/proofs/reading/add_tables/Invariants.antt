@@ -16,7 +16,8 @@ invariant-rows g l = record {
   count : g.S.Source.faults l.source ≡ g.S.Source.faults l.initial.source;
   refusals : ForSome (g.S.Source.known l.initial.source) (λ file. flat_map (sibling_refusals file) l.fn.rows ≡ flat_map (sibling_refusals file) l.rest);
   tables : ForSome (g.S.Source.known l.initial.source) (λ file. l.tables.items ++ tables_among file l.rest ≡ l.initial.tables.items ++ tables_among file l.fn.rows);
-  apart : (low high : ℕ) → FillSource high low l.fn.rows → StandApart 0 low l.initial.tables.items → (mid : ℕ) × FillSource high mid l.rest × StandApart 0 mid l.tables.items;
+  apart : (low high : ℕ) → FillSource high low l.fn.rows → StandApart 0 low l.initial.tables.items
+      → (mid : ℕ) × FillSource high mid l.rest × StandApart 0 mid l.tables.items;
 }
 
 -- the rows that are left

@@ -20,26 +20,34 @@ returns-in-Err-clause-refused g c file known =
     (ap (λ (rows : List RootBox). root_refusals rows ++ refusals_below file table_path c.args.roots.now) (sym c.as_slice-rows.ensures.boxes)) ((c.in-Err.ensures {u = tt}).refused))
 
 -- the root boxes lie in the source
-lies : (len : ℕ) (rows roots : List RootBox) (size low : ℕ) → rows ≡ roots → FillSource size low rows → All (IsBoxWithin len) roots → LieIn len rows
-lies len rows roots size low same fill within = lie_of size low len rows fill (subst (All (IsBoxWithin len)) (sym same) within)
+lies : (len : ℕ) (rows roots : List RootBox) (size low : ℕ) → rows ≡ roots → FillSource size low rows
+    → All (IsBoxWithin len) roots → LieIn len rows
+lies len rows roots size low same fill within =
+    lie_of size low len rows fill (subst (All (IsBoxWithin len)) (sym same) within)
 
 -- a root box that is refused does
 pub returns-in-Err-clause-reads : goal.returns-in-Err-clause-reads
 returns-in-Err-clause-reads g c =
     let f = c.as_slice-rows.ensures.fill in
     let len = g.S.Source.len c.args.source.now in
-    let lie : LieIn len c.as_slice-rows.result.now = lies len c.as_slice-rows.result.now c.args.roots.now f.size f.low c.as_slice-rows.ensures.boxes f.fill c.requires.inside in
+    let lie : LieIn len c.as_slice-rows.result.now =
+    lies len c.as_slice-rows.result.now c.args.roots.now f.size f.low c.as_slice-rows.ensures.boxes f.fill
+    c.requires.inside in
     record {
       stays = record { same_len = refl; same_bytes = refl; later = omega arith };
       quiet = tt;
-      cause = root_cause len (g.S.Source.faults c.args.source.now) c.as_slice-rows.result.now c.in-Err.error (lie_starts len lie.high lie.low c.as_slice-rows.result.now lie.fill lie.inside) (c.in-Err.ensures {u = tt}).refused;
+      cause =
+          root_cause len (g.S.Source.faults c.args.source.now) c.as_slice-rows.result.now c.in-Err.error
+          (lie_starts len lie.high lie.low c.as_slice-rows.result.now lie.fill lie.inside)
+          (c.in-Err.ensures {u = tt}).refused;
     }
 
 -- so they can be visited
 pub visit-requires : goal.visit-requires
 visit-requires g c =
     let f = c.as_slice-rows.ensures.fill in
-    record { inside = lies (g.S.Source.len c.args.source.now) c.as_slice-rows.result.now c.args.roots.now f.size f.low c.as_slice-rows.ensures.boxes f.fill c.requires.inside }
+    record
+    { inside = lies (g.S.Source.len c.args.source.now) c.as_slice-rows.result.now c.args.roots.now f.size f.low c.as_slice-rows.ensures.boxes f.fill c.requires.inside }
 
 -- nothing is refused, and all tables are there
 pub returns-in-Ok-visit-clause-found : goal.returns-in-Ok-visit-clause-found
@@ -57,7 +65,9 @@ pub returns-in-Ok-visit-clause-inside : goal.returns-in-Ok-visit-clause-inside
 returns-in-Ok-visit-clause-inside g c =
     let f = c.as_slice-rows.ensures.fill in
     let len = g.S.Source.len c.args.source.now in
-    let lie : LieIn len c.as_slice-rows.result.now = lies len c.as_slice-rows.result.now c.args.roots.now f.size f.low c.as_slice-rows.ensures.boxes f.fill c.requires.inside in
+    let lie : LieIn len c.as_slice-rows.result.now =
+    lies len c.as_slice-rows.result.now c.args.roots.now f.size f.low c.as_slice-rows.ensures.boxes f.fill
+    c.requires.inside in
     stand_higher 0 lie.high len c.visit.new.tables.items lie.inside
     ((c.in-Ok-visit.ensures {u = tt}).apart lie.low lie.high lie.fill (subst (StandApart 0 lie.low) (sym c.new-tables.ensures.items) (stand_none lie.low)))
 
@@ -71,6 +81,7 @@ returns-in-Err-visit-clause-refused g c file known =
     outside_map c.in-Err-visit.error
     (λ (h : IsFirstRefusal (refusals_below file table_path rows) c.in-Err-visit.error). record {
       others = h.others;
-      first = ap₂ (λ (xs ys : List ShiftError). xs ++ ys) none (ap (refusals_below file table_path) (sym same)) ∙ h.first;
+      first =
+          ap₂ (λ (xs ys : List ShiftError). xs ++ ys) none (ap (refusals_below file table_path) (sym same)) ∙ h.first;
     })
     ((c.in-Err-visit.ensures {u = tt}).refused file known)

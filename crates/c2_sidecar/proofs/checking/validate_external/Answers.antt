@@ -9,11 +9,11 @@ use Rattle.c2_sidecar.proofs.checking.validate_external.Goals as goal
 -- the container is refused
 pub returns-in-Err-clause-answer : goal.returns-in-Err-clause-answer
 returns-in-Err-clause-answer g c = λ file known bytes where_due.
-    refused_answer c.each_media_file_is_located.ensures.once g.H.Hashing.digest_of (panel_says (map (λ j. (goal.Judge-dyn g (j.vtable, j.value)).says j.value) c.args.judges.now.items)) file bytes c.in-Err.error c.refused.result (c.in-Err.ensures.said file known) c.refused.ensures
+    refused_answer g.H.Hashing.digest_of (panel_says (map (λ j. (goal.Judge-dyn g (j.vtable, j.value)).says j.value) c.args.judges.now.items)) file bytes c.in-Err.error c.refused.result (c.in-Err.ensures.said file known) c.refused.ensures
 
 pub returns-in-Err-clause-panel : goal.returns-in-Err-clause-panel
 returns-in-Err-clause-panel g c =
-    refused_panel c.each_media_file_is_located.ensures.once _ _ _ g.H.Hashing.digest_of (g.S.Source.known c.args.source.now) (g.T.Source.known c.args.store.now) c.args.judges.now c.in-Err.error c.refused.result (λ file known. c.in-Err.ensures.said file known) c.refused.ensures
+    refused_panel _ _ _ g.H.Hashing.digest_of (g.S.Source.known c.args.source.now) (g.T.Source.known c.args.store.now) c.args.judges.now c.in-Err.error c.refused.result (λ file known. c.in-Err.ensures.said file known) c.refused.ensures
 
 -- it isn't
 pub returns-clause-answer : goal.returns-clause-answer
@@ -22,11 +22,14 @@ returns-clause-answer g c = λ file known bytes where_due.
     let contained = c.in-Ok.contained in
     let located = c.in-Ok.ensures.said file known in
     let held = due (g.T.Source.known c.args.store.now) file bytes contained located where_due in
-    list_is c.each_file_has_an_external_check.ensures.answer g.H.Hashing.digest_of said file bytes contained c.check_read.result (g.met.S.Source.known_bytes c.args.source.now file known) (g.met.T.Source.known_bytes c.args.store.now bytes held) located
+    list_is c.each_file_has_an_external_check.ensures.answer g.H.Hashing.digest_of said file bytes contained
+    c.check_read.result (g.met.S.Source.known_bytes c.args.source.now file known)
+    (g.met.T.Source.known_bytes c.args.store.now bytes held) located
     (subst (λ (x : Container). IfOk c.check_read.result (IsListAnswered g.H.Hashing.digest_of said x bytes file)) c.container_of-container.ensures (c.check_read.ensures.answer file (c.in-Ok.ensures.stays.same_bytes ∙ known) bytes held))
 
 pub returns-clause-not_due : goal.returns-clause-not_due
-returns-clause-not_due g c = λ file known refused. absurd (unrefused file c.in-Ok.contained refused.0 refused.1 (c.in-Ok.ensures.said file known) refused.2)
+returns-clause-not_due g c =
+    λ file known refused. absurd (unrefused file c.in-Ok.contained refused.0 refused.1 (c.in-Ok.ensures.said file known) refused.2)
 
 pub returns-clause-panel : goal.returns-clause-panel
 returns-clause-panel g c =

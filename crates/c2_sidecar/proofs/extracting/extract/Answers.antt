@@ -8,29 +8,32 @@ use Rattle.c2_sidecar.proofs.extracting.extract.Goals as goal
 
 -- the container is refused
 pub returns-in-Err-clause-answer : goal.returns-in-Err-clause-answer
-returns-in-Err-clause-answer g c = λ file known. refused_is c.each_media_file_is_located.ensures.once file c.in-Err.error c.refused.result (c.in-Err.ensures.said file known) c.refused.ensures
+returns-in-Err-clause-answer g c =
+    λ file known. refused_is file c.in-Err.error c.refused.result (c.in-Err.ensures.said file known) c.refused.ensures
 
 -- there is no store
 pub returns-in_default-clause-answer : goal.returns-in_default-clause-answer
 returns-in_default-clause-answer g c = λ file known.
-    located_is c.each_media_file_is_located.ensures.once file absent (said_none file c.in-Ok.contained (c.in-Ok.ensures.said file known) (sym c.found_in.ensures ∙ c.in_default.is))
+    located_is file absent (said_none file c.in-Ok.contained (c.in-Ok.ensures.said file known) (sym c.found_in.ensures ∙ c.in_default.is))
 
 -- the store is written
 pub returns-in-Ok-write_store-clause-answer : goal.returns-in-Ok-write_store-clause-answer
 returns-in-Ok-write_store-clause-answer g c = λ file known.
     let f = c.in-Some.found in
     subst (λ (n : ℕ). IsExtracted file (Done n)) (sym (ap (λ (xs : List ℕ). length xs) c.as_slice-store.ensures.value))
-    (located_is c.each_media_file_is_located.ensures.once file (here f.start f.length f.store) (said_here file c.in-Ok.contained f (c.in-Ok.ensures.said file known) (sym c.found_in.ensures ∙ c.in-Some.is)))
+    (located_is file (here f.start f.length f.store) (said_here file c.in-Ok.contained f (c.in-Ok.ensures.said file known) (sym c.found_in.ensures ∙ c.in-Some.is)))
 
 pub returns-in-Ok-write_store-clause-written : goal.returns-in-Ok-write_store-clause-written
 returns-in-Ok-write_store-clause-written g c = λ file known.
     let f = c.in-Some.found in
-    all_written g.K.Sink.written g.K.Sink.spare g.K.Sink.finished file f c.as_slice-store.result.now c.args.out.now c.write_store.new.sink c.as_slice-store.ensures.value
+    all_written g.K.Sink.written g.K.Sink.spare g.K.Sink.finished file f c.as_slice-store.result.now c.args.out.now
+    c.write_store.new.sink c.as_slice-store.ensures.value
     (said_here file c.in-Ok.contained f (c.in-Ok.ensures.said file known) (sym c.found_in.ensures ∙ c.in-Some.is)) c.in-Ok-write_store.ensures.stored
 
 -- the sink fails
 pub returns-clause-written : goal.returns-clause-written
 returns-clause-written g c = λ file known.
     let f = c.in-Some.found in
-    part_written c.each_media_file_is_located.ensures.once g.K.Sink.written g.K.Sink.spare g.K.Sink.finished file f c.as_slice-store.result.now c.args.out.now c.write_store.new.sink c.as_slice-store.ensures.value
+    part_written g.K.Sink.written g.K.Sink.spare g.K.Sink.finished file f c.as_slice-store.result.now c.args.out.now
+    c.write_store.new.sink c.as_slice-store.ensures.value
     (said_here file c.in-Ok.contained f (c.in-Ok.ensures.said file known) (sym c.found_in.ensures ∙ c.in-Some.is)) c.in-Err-write_store.ensures.stored

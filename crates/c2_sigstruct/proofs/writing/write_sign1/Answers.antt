@@ -1,3 +1,4 @@
+use Rattle.c2_cbor_spec.proofs.TheLaws.{sorting_keeps_the_length}
 use Rattle.std.proofs.Common.{◌≡◌, [], ◌++◌, length, sym, subst, ap, ◌∙◌}
 use Rattle.std.proofs.lemmas.Result.{IfOk-weaker}
 use Rattle.c2_spec.specs.Cbor.Item.{Item}
@@ -15,19 +16,27 @@ use Rattle.c2_sigstruct.proofs.writing.write_sign1.Goals as goal
 -- the padded message is plain, and so it is legal
 pub written-requires : goal.written-requires
 written-requires c =
-    let is : view c.in_ok-item.item ≡ tagged_message (padded (parts_of c.args.sign.now) (fill_pairs c.args.fill)) = c.in_ok-item.ensures ∙ ap (with_header (parts_of c.args.sign.now)) c.in_ok-header.ensures in
+    let is : view c.in_ok-item.item ≡ tagged_message (padded (parts_of c.args.sign.now) (fill_pairs c.args.fill)) =
+    c.in_ok-item.ensures ∙ ap (with_header (parts_of c.args.sign.now)) c.in_ok-header.ensures in
     subst IsLegal (sym is) (padded_plain (parts_of c.args.sign.now) c.requires.can.0 c.args.fill c.requires.can.1).legal
 
 -- it is longer by the cost of its fill
 pub returns-clause-longer : goal.returns-clause-longer
 returns-clause-longer c =
-    let is : view c.in_ok-item.item ≡ tagged_message (padded (parts_of c.args.sign.now) (fill_pairs c.args.fill)) = c.in_ok-item.ensures ∙ ap (with_header (parts_of c.args.sign.now)) c.in_ok-header.ensures in
-    IfOk-weaker c.written.result _ _ (λ b h. ap length (h ∙ ap deterministic is) ∙ padded_length c.sorting_keeps_the_length.ensures (parts_of c.args.sign.now) c.requires.can.0 c.args.fill c.requires.can.1) c.written.ensures.bytes
+    let is : view c.in_ok-item.item ≡ tagged_message (padded (parts_of c.args.sign.now) (fill_pairs c.args.fill)) =
+    c.in_ok-item.ensures ∙ ap (with_header (parts_of c.args.sign.now)) c.in_ok-header.ensures in
+    IfOk-weaker c.written.result _ _
+    (λ b h. ap length (h ∙ ap deterministic is) ∙ padded_length sorting_keeps_the_length (parts_of c.args.sign.now) c.requires.can.0 c.args.fill c.requires.can.1)
+    c.written.ensures.bytes
 
 -- it is read
 pub returns-clause-again : goal.returns-clause-again
 returns-clause-again c =
     let p = parts_of c.args.sign.now in
-    let is : view c.in_ok-item.item ≡ tagged_message (padded (parts_of c.args.sign.now) (fill_pairs c.args.fill)) = c.in_ok-item.ensures ∙ ap (with_header (parts_of c.args.sign.now)) c.in_ok-header.ensures in
-    let plain : IsPlain (view c.in_ok-item.item) = subst IsPlain (sym is) (padded_plain p c.requires.can.0 c.args.fill c.requires.can.1) in
-    IfOk-weaker c.written.result _ _ (λ b h. read_padded p c.requires.can.0 c.args.fill b c.requires.can.1 (subst (λ (v : Item). BeginsWith (b ++ []) (sorted v) (length b)) is (h plain []))) c.written.ensures.again
+    let is : view c.in_ok-item.item ≡ tagged_message (padded (parts_of c.args.sign.now) (fill_pairs c.args.fill)) =
+    c.in_ok-item.ensures ∙ ap (with_header (parts_of c.args.sign.now)) c.in_ok-header.ensures in
+    let plain : IsPlain (view c.in_ok-item.item) =
+    subst IsPlain (sym is) (padded_plain p c.requires.can.0 c.args.fill c.requires.can.1) in
+    IfOk-weaker c.written.result _ _
+    (λ b h. read_padded p c.requires.can.0 c.args.fill b c.requires.can.1 (subst (λ (v : Item). BeginsWith (b ++ []) (sorted v) (length b)) is (h plain [])))
+    c.written.ensures.again

@@ -11,8 +11,9 @@ returns-then-ends-clause-strips c = λ file said.
     let f = c.in-Some.found in
     let range : Range = record { start = f.start; length = f.length } in
     let contained = said_container file c.args.contained.now (Bmff c.in-Bmff.roots) said c.in-Bmff.is in
-    let last : is_last range c.in-Bmff.roots ≡ true = sym (c.is_last-ends.ensures ∙ ap (is_last range) c.as_slice.ensures.boxes) ∙ c.if-ends.true in
-    boxes_done c.each_media_file_is_located.ensures.once file c.in-Bmff.roots range f.store contained.1 (said_stored file c.args.contained.now f said c.in-Some.is) last
+    let last : is_last range c.in-Bmff.roots ≡ true =
+    sym (c.is_last-ends.ensures ∙ ap (is_last range) c.as_slice.ensures.boxes) ∙ c.if-ends.true in
+    boxes_done file c.in-Bmff.roots range f.store contained.1 (said_stored file c.args.contained.now f said c.in-Some.is) last
 
 -- others follow it
 pub returns-else-ends-clause-strips : goal.returns-else-ends-clause-strips
@@ -20,5 +21,6 @@ returns-else-ends-clause-strips c = λ file said.
     let f = c.in-Some.found in
     let range : Range = record { start = f.start; length = f.length } in
     let contained = said_container file c.args.contained.now (Bmff c.in-Bmff.roots) said c.in-Bmff.is in
-    let last : is_last range c.in-Bmff.roots ≡ false = sym (c.is_last-ends.ensures ∙ ap (is_last range) c.as_slice.ensures.boxes) ∙ c.if-ends.false in
+    let last : is_last range c.in-Bmff.roots ≡ false =
+    sym (c.is_last-ends.ensures ∙ ap (is_last range) c.as_slice.ensures.boxes) ∙ c.if-ends.false in
     boxes_middle file c.in-Bmff.roots range f.store contained.0 contained.1 (said_stored file c.args.contained.now f said c.in-Some.is) last

@@ -10,5 +10,6 @@ no_row = record { start = 0; length = 0; header = 0; kind = []; to_end = false }
 -- it is asked of the last row
 pub returns : goal.returns
 returns c =
-    let some : 0 < length c.args.rows.now = grind (arith, c.if-is_empty.ensures, c.if-is_empty.false, c.is_empty.ensures) in
+    let some : 0 < length c.args.rows.now =
+    grind (arith, c.if-is_empty.ensures, c.if-is_empty.false, c.is_empty.ensures) in
     c.ends_with.ensures ∙ sym (last_row c.args.range c.args.rows.now no_row some)

@@ -6,17 +6,21 @@ use Rattle.c2_strip.proofs.stripping.strip.Goals as goal
 
 -- the container is refused
 pub returns-in-Err-clause-answer : goal.returns-in-Err-clause-answer
-returns-in-Err-clause-answer g c = λ file known. refused_is c.each_file_is_stripped.ensures.once file c.in-Err.error c.refused.result (c.in-Err.ensures.said file known) c.refused.ensures
+returns-in-Err-clause-answer g c =
+    λ file known. refused_is file c.in-Err.error c.refused.result (c.in-Err.ensures.said file known) c.refused.ensures
 
 pub returns-in-Err-clause-written : goal.returns-in-Err-clause-written
-returns-in-Err-clause-written g c = λ file known. idle_file g.K.Sink.written g.K.Sink.spare g.K.Sink.finished file c.args.out.now (ending_of c.refused.result) (refused_idle c.in-Err.error c.refused.result c.refused.ensures)
+returns-in-Err-clause-written g c =
+    λ file known. idle_file g.K.Sink.written g.K.Sink.spare g.K.Sink.finished file c.args.out.now (ending_of c.refused.result) (refused_idle c.in-Err.error c.refused.result c.refused.ensures)
 
 pub returns-in-Err-clause-within : goal.returns-in-Err-clause-within
 returns-in-Err-clause-within g c =
     refused_within (g.S.Source.len c.args.source.now) (g.S.Source.faults c.args.source.now) (g.S.Source.faults c.locate.new.source) c.in-Err.error c.refused.result c.in-Err.ensures.cause c.refused.ensures
 
 pub returns-in-Err-clause-ends : goal.returns-in-Err-clause-ends
-returns-in-Err-clause-ends g c = idle_ends g.K.Sink.finished c.args.out.now (ending_of c.refused.result) (refused_idle c.in-Err.error c.refused.result c.refused.ensures)
+returns-in-Err-clause-ends g c =
+    idle_ends g.K.Sink.finished c.args.out.now (ending_of c.refused.result)
+    (refused_idle c.in-Err.error c.refused.result c.refused.ensures)
 
 pub returns-in-Err-clause-reads : goal.returns-in-Err-clause-reads
 returns-in-Err-clause-reads g c =
@@ -28,20 +32,27 @@ returns-in-Err-clause-writes g c =
 
 -- nothing is left out
 pub returns-in_default-clause-answer : goal.returns-in_default-clause-answer
-returns-in_default-clause-answer g c = λ file known. stripped_is c.each_file_is_stripped.ensures.once file c.answer_of-answer.result (c.answer_of-answer.ensures.strips file (c.in-Ok.ensures.said file known))
+returns-in_default-clause-answer g c =
+    λ file known. stripped_is file c.answer_of-answer.result (c.answer_of-answer.ensures.strips file (c.in-Ok.ensures.said file known))
 
 pub returns-in_default-clause-written : goal.returns-in_default-clause-written
-returns-in_default-clause-written g c = λ file known. idle_file g.K.Sink.written g.K.Sink.spare g.K.Sink.finished file c.args.out.now (ending_of (Ok c.answer_of-answer.result)) (other_idle c.answer_of-answer.result c.in_default.not-Done)
+returns-in_default-clause-written g c =
+    λ file known. idle_file g.K.Sink.written g.K.Sink.spare g.K.Sink.finished file c.args.out.now (ending_of (Ok c.answer_of-answer.result)) (other_idle c.answer_of-answer.result c.in_default.not-Done)
 
 pub returns-in_default-clause-within : goal.returns-in_default-clause-within
-returns-in_default-clause-within g c = c.answer_of-answer.ensures.within (g.S.Source.len c.args.source.now) c.in-Ok.ensures.within
+returns-in_default-clause-within g c =
+    c.answer_of-answer.ensures.within (g.S.Source.len c.args.source.now) c.in-Ok.ensures.within
 
 pub returns-in_default-clause-ends : goal.returns-in_default-clause-ends
-returns-in_default-clause-ends g c = idle_ends g.K.Sink.finished c.args.out.now (ending_of (Ok c.answer_of-answer.result)) (other_idle c.answer_of-answer.result c.in_default.not-Done)
+returns-in_default-clause-ends g c =
+    idle_ends g.K.Sink.finished c.args.out.now (ending_of (Ok c.answer_of-answer.result))
+    (other_idle c.answer_of-answer.result c.in_default.not-Done)
 
 pub returns-in_default-clause-writes : goal.returns-in_default-clause-writes
 returns-in_default-clause-writes g c = record {
-  stays = stays_unsaid g.K.Sink.written g.K.Sink.finished g.K.Sink.faults c.args.out.now c.args.out.now (c.steps_follow.ensures.stays.still c.args.out.now);
+  stays =
+      stays_unsaid g.K.Sink.written g.K.Sink.finished g.K.Sink.faults c.args.out.now c.args.out.now
+      (c.steps_follow.ensures.stays.still c.args.out.now);
   quiet = refl;
   cause = tt;
 }
@@ -49,7 +60,7 @@ returns-in_default-clause-writes g c = record {
 -- the range is left out
 pub returns-in-Ok-write_outside-clause-answer : goal.returns-in-Ok-write_outside-clause-answer
 returns-in-Ok-write_outside-clause-answer g c = λ file known.
-    stripped_is c.each_file_is_stripped.ensures.once file (Done c.in-Done.range) (c.in-Done.ensures.strips file (c.in-Ok.ensures.said file known))
+    stripped_is file (Done c.in-Done.range) (c.in-Done.ensures.strips file (c.in-Ok.ensures.said file known))
 
 pub returns-in-Ok-write_outside-clause-written : goal.returns-in-Ok-write_outside-clause-written
 returns-in-Ok-write_outside-clause-written g c = λ file known.
@@ -59,11 +70,11 @@ returns-in-Ok-write_outside-clause-written g c = λ file known.
 -- the source fails
 pub returns-in-Err-ReadFault-clause-written : goal.returns-in-Err-ReadFault-clause-written
 returns-in-Err-ReadFault-clause-written g c = λ file known.
-    part_read c.each_file_is_stripped.ensures.once g.K.Sink.written g.K.Sink.spare g.K.Sink.finished file c.in-Done.range c.args.out.now c.write_outside.new.sink _ c.in-Err-ReadFault.field-0-is
+    part_read g.K.Sink.written g.K.Sink.spare g.K.Sink.finished file c.in-Done.range c.args.out.now c.write_outside.new.sink _ c.in-Err-ReadFault.field-0-is
     (c.in-Done.ensures.strips file (c.in-Ok.ensures.said file known)) (c.in-Err-ReadFault.ensures.whole file (c.in-Ok.ensures.stays.same_bytes ∙ known))
 
 -- the sink fails
 pub returns-clause-written : goal.returns-clause-written
 returns-clause-written g c = λ file known.
-    part_written c.each_file_is_stripped.ensures.once g.K.Sink.written g.K.Sink.spare g.K.Sink.finished file c.in-Done.range c.args.out.now c.write_outside.new.sink _ c.in-Err-WriteFault.field-0-is
+    part_written g.K.Sink.written g.K.Sink.spare g.K.Sink.finished file c.in-Done.range c.args.out.now c.write_outside.new.sink _ c.in-Err-WriteFault.field-0-is
     (c.in-Done.ensures.strips file (c.in-Ok.ensures.said file known)) (c.in-Err-WriteFault.ensures.whole file (c.in-Ok.ensures.stays.same_bytes ∙ known))

@@ -7,7 +7,8 @@ use Rattle.c2_strip.proofs.writing.copy_outside.Goals as goal
 pub returns-in-Err-clause-step : goal.returns-in-Err-clause-step
 returns-in-Err-clause-step g c = λ file known.
     let range = c.args.range in
-    let size : c.args.size ≡ length file = omega (arith, g.met.S.Source.known_len c.args.source.now file known, c.requires.size) in
+    let size : c.args.size ≡ length file =
+    omega (arith, g.met.S.Source.known_len c.args.source.now file known, c.requires.size) in
     subst (λ (x : List ℕ). Breaks g.K.Sink.written g.K.Sink.spare g.K.Sink.finished x c.args.sink.now c.copy.new.sink (ending_of c.in-Err.error)) (parts_outside file range c.args.size size)
     (c.steps_follow.ensures.steps.first (piece_of file 0 range.start) (piece_of file (range.start + range.length) c.args.size) c.args.sink.now c.copy.new.sink (ending_of c.in-Err.error) (c.in-Err.ensures.step file known))
 
@@ -15,8 +16,10 @@ returns-in-Err-clause-step g c = λ file known.
 pub returns-in-Ok-copy-clause-step : goal.returns-in-Ok-copy-clause-step
 returns-in-Ok-copy-clause-step g c = λ file known.
     let range = c.args.range in
-    let size : c.args.size ≡ length file = omega (arith, g.met.S.Source.known_len c.args.source.now file known, c.requires.size) in
-    subst (λ (x : List ℕ). Puts g.K.Sink.written g.K.Sink.spare g.K.Sink.finished x c.args.sink.now c.copy-2.new.sink) (parts_outside file range c.args.size size)
+    let size : c.args.size ≡ length file =
+    omega (arith, g.met.S.Source.known_len c.args.source.now file known, c.requires.size) in
+    subst (λ (x : List ℕ). Puts g.K.Sink.written g.K.Sink.spare g.K.Sink.finished x c.args.sink.now c.copy-2.new.sink)
+    (parts_outside file range c.args.size size)
     (c.steps_follow.ensures.steps.both (piece_of file 0 range.start) (piece_of file (range.start + range.length) c.args.size) c.args.sink.now c.copy.new.sink c.copy-2.new.sink (c.in-Ok.ensures.step file known)
     (c.in-Ok-copy.ensures.step file (c.in-Ok.ensures.reads.stays.same_bytes ∙ known)))
 
@@ -24,7 +27,8 @@ returns-in-Ok-copy-clause-step g c = λ file known.
 pub returns-in-Err-copy-clause-step : goal.returns-in-Err-copy-clause-step
 returns-in-Err-copy-clause-step g c = λ file known.
     let range = c.args.range in
-    let size : c.args.size ≡ length file = omega (arith, g.met.S.Source.known_len c.args.source.now file known, c.requires.size) in
+    let size : c.args.size ≡ length file =
+    omega (arith, g.met.S.Source.known_len c.args.source.now file known, c.requires.size) in
     subst (λ (x : List ℕ). Breaks g.K.Sink.written g.K.Sink.spare g.K.Sink.finished x c.args.sink.now c.copy-2.new.sink (ending_of c.in-Err-copy.error)) (parts_outside file range c.args.size size)
     (c.steps_follow.ensures.steps.second (piece_of file 0 range.start) (piece_of file (range.start + range.length) c.args.size) c.args.sink.now c.copy.new.sink c.copy-2.new.sink (ending_of c.in-Err-copy.error) (c.in-Ok.ensures.step file known)
     (c.in-Err-copy.ensures.step file (c.in-Ok.ensures.reads.stays.same_bytes ∙ known)))

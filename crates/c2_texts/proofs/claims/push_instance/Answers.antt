@@ -6,4 +6,6 @@ use Rattle.c2_texts.proofs.claims.push_instance.Goals as goal
 
 -- what was written is the text of the value that was made of the instance
 pub returns : goal.returns
-returns c = subst (λ (v : Data). Appends c.args.out.now c.push_value.new.out (codes ",\"instanceID\":" ++ compact_text v)) c.in_ok-instance.ensures c.in_ok-push_value.ensures
+returns c =
+    subst (λ (v : Data). Appends c.args.out.now c.push_value.new.out (codes ",\"instanceID\":" ++ compact_text v))
+    c.in_ok-instance.ensures c.in_ok-push_value.ensures

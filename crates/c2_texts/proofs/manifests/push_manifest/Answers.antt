@@ -5,12 +5,18 @@ use Rattle.c2_texts.proofs.manifests.push_manifest.Goals as goal
 
 -- the assertion boxes of a manifest of the store are boxes of the tree
 pub push_labelled-requires : goal.push_labelled-requires
-push_labelled-requires c = assertions_inside c.args.tree.now c.args.store.now c.args.i c.assertions.result.now c.requires.same c.assertions.ensures
+push_labelled-requires c =
+    assertions_inside c.args.tree.now c.args.store.now c.args.i c.assertions.result.now c.requires.same
+    c.assertions.ensures
 
 -- what was written is the text of the manifest at this place
 pub returns : goal.returns
 returns c =
-    manifest_written c.args.tree.now c.assertions.result.now c.label.result.now c.is_update-update.result _ (string_bytes c.args.out.now)
-    (string_bytes c.push_labelled.new.out) (string_bytes c.push_str.new.self) (string_bytes c.push_claim_or_null.new.out) (string_bytes c.push_value.new.out) (string_bytes c.push_value-2.new.out) (string_bytes c.push.new.self)
+    manifest_written c.args.tree.now c.assertions.result.now c.label.result.now c.is_update-update.result _
+    (string_bytes c.args.out.now)
+    (string_bytes c.push_labelled.new.out) (string_bytes c.push_str.new.self)
+    (string_bytes c.push_claim_or_null.new.out) (string_bytes c.push_value.new.out)
+    (string_bytes c.push_value-2.new.out) (string_bytes c.push.new.self)
     (slice_get c.args.store.now c.args.i) c.assertions.ensures c.label.ensures c.is_update-update.ensures
-    c.in_ok-push_labelled.ensures c.in_ok-push_str.ensures.bytes c.in_ok-push_claim_or_null.ensures (search rules) (search rules) (search rules)
+    c.in_ok-push_labelled.ensures c.in_ok-push_str.ensures.bytes c.in_ok-push_claim_or_null.ensures (search rules)
+    (search rules) (search rules)

@@ -15,4 +15,6 @@ boxes-preserved c =
 
 -- at the end it has the lines of all boxes
 pub returns : goal.returns
-returns c = lines_whole c.args.tree.now c.boxes.i _ (omega (arith, c.boxes.invariant.end, c.boxes-test.false, c.boxes.auto.i-end)) c.boxes.invariant.lines
+returns c =
+    lines_whole c.args.tree.now c.boxes.i _
+    (omega (arith, c.boxes.invariant.end, c.boxes-test.false, c.boxes.auto.i-end)) c.boxes.invariant.lines

@@ -1,5 +1,5 @@
-use Rattle.c2_uri.proofs.Spelled.{spelled}
+use Rattle.c2_uri.proofs.TheLaws.{read_uris_are_spelled}
 use Rattle.c2_uri.proofs.laws.read_uris_are_spelled.Goals as goal
 
 pub returns : goal.returns
-returns c = spelled
+returns c = read_uris_are_spelled

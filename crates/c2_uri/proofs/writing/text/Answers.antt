@@ -6,4 +6,6 @@ use Rattle.c2_uri.proofs.writing.text.Goals as goal
 
 pub returns-clause-read_back : goal.returns-clause-read_back
 returns-clause-read_back c =
-    IfOk-weaker c.spell.result _ _ (λ t is. ap uri_of is ∙ written_read (uri_view c.args.uri.now) (record { manifest = c.requires.manifest; target = c.requires.target })) c.spell.ensures
+    IfOk-weaker c.spell.result _ _
+    (λ t is. ap uri_of is ∙ written_read (uri_view c.args.uri.now) (record { manifest = c.requires.manifest; target = c.requires.target }))
+    c.spell.ensures

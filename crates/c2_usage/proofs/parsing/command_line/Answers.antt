@@ -9,4 +9,5 @@ loop-command-preserved c =
     let before = map leaf_of (take c.loop-command.command-index c.commands-command-items.result.now) in
     added _ _ _ _ _ c.loop-command.invariant c.in_ok-leaf.ensures c.in_ok-parser.ensures
     ∙ whole_more before _
-    ∙ ap whole (made_more leaf_of c.commands-command-items.result.now c.loop-command.command-index _ c.loop-command-test.true)
+    ∙ ap whole
+    (made_more leaf_of c.commands-command-items.result.now c.loop-command.command-index _ c.loop-command-test.true)

@@ -17,47 +17,55 @@ use Rattle.c2_validate.proofs.external.check_external.Goals as goal
 -- ---- the list is too long
 
 pub returns-then-store-clause-answer : goal.returns-then-store-clause-answer
-returns-then-store-clause-answer g c = λ file known. list_too_long g.H.Hashing.digest_of _ c.args.container.now c.args.store.now file (lt-ltb MAX_STORE_LEN (length c.args.store.now) (omega (arith, c.if-store.true)))
+returns-then-store-clause-answer g c =
+    λ file known. list_too_long g.H.Hashing.digest_of _ c.args.container.now c.args.store.now file (lt-ltb MAX_STORE_LEN (length c.args.store.now) (omega (arith, c.if-store.true)))
 
 pub returns-then-store-clause-panel : goal.returns-then-store-clause-panel
 returns-then-store-clause-panel g c =
-    hears_nobody _ _ _ _ (ListAsks g.H.Hashing.digest_of c.args.store.now) c.args.judges.now _ (λ qs asks. long_asks g.H.Hashing.digest_of c.args.store.now _ qs (lt-ltb MAX_STORE_LEN (length c.args.store.now) (omega (arith, c.if-store.true))) asks)
+    hears_nobody _ _ _ _ (ListAsks g.H.Hashing.digest_of c.args.store.now) c.args.judges.now _
+    (λ qs asks. long_asks g.H.Hashing.digest_of c.args.store.now _ qs (lt-ltb MAX_STORE_LEN (length c.args.store.now) (omega (arith, c.if-store.true))) asks)
 
 -- ---- it is refused
 
 pub returns-in-Ok-Refused-clause-answer : goal.returns-in-Ok-Refused-clause-answer
 returns-in-Ok-Refused-clause-answer g c = λ file known.
-    list_refused c.one_opening.ensures.store g.H.Hashing.digest_of _ c.args.container.now c.args.store.now file c.in-Ok-Refused.reason c.in-Ok-Refused.number (le-ltb MAX_STORE_LEN (length c.args.store.now) (omega (arith, c.if-store.false)))
+    list_refused g.H.Hashing.digest_of _ c.args.container.now c.args.store.now file c.in-Ok-Refused.reason c.in-Ok-Refused.number (le-ltb MAX_STORE_LEN (length c.args.store.now) (omega (arith, c.if-store.false)))
     (subst (IsReadFrom c.args.store.now) c.in-Ok-Refused.field-0-is c.in-Ok-Refused.ensures)
 
 pub returns-in-Ok-Refused-clause-panel : goal.returns-in-Ok-Refused-clause-panel
 returns-in-Ok-Refused-clause-panel g c =
     hears_nobody _ _ _ _ (ListAsks g.H.Hashing.digest_of c.args.store.now) c.args.judges.now _
-    (λ qs asks. refused_asks c.one_opening.ensures.store g.H.Hashing.digest_of c.args.store.now _ c.in-Ok-Refused.reason c.in-Ok-Refused.number qs (le-ltb MAX_STORE_LEN (length c.args.store.now) (omega (arith, c.if-store.false)))
+    (λ qs asks. refused_asks g.H.Hashing.digest_of c.args.store.now _ c.in-Ok-Refused.reason c.in-Ok-Refused.number qs (le-ltb MAX_STORE_LEN (length c.args.store.now) (omega (arith, c.if-store.false)))
     (subst (IsReadFrom c.args.store.now) c.in-Ok-Refused.field-0-is c.in-Ok-Refused.ensures) asks)
 
 -- ---- memory ran out
 
 pub returns-in-Err-clause-panel : goal.returns-in-Err-clause-panel
-returns-in-Err-clause-panel g c = hears_early _ _ _ _ (ListAsks g.H.Hashing.digest_of c.args.store.now) c.args.judges.now NoMemory refl
+returns-in-Err-clause-panel g c =
+    hears_early _ _ _ _ (ListAsks g.H.Hashing.digest_of c.args.store.now) c.args.judges.now NoMemory refl
 
 pub returns-in-Err-of_store-clause-panel : goal.returns-in-Err-of_store-clause-panel
-returns-in-Err-of_store-clause-panel g c = hears_early _ _ _ _ (ListAsks g.H.Hashing.digest_of c.args.store.now) c.args.judges.now NoMemory refl
+returns-in-Err-of_store-clause-panel g c =
+    hears_early _ _ _ _ (ListAsks g.H.Hashing.digest_of c.args.store.now) c.args.judges.now NoMemory refl
 
 -- ---- it was opened
 
 -- the boxes are those of the tree
 pub of_store-requires : goal.of_store-requires
-of_store-requires g c = boxes_read c.args.store.now c.in-Ok-Here.tree c.in-Ok-Here.boxes (subst (IsReadFrom c.args.store.now) c.in-Ok-Here.field-0-is c.in-Ok-Here.ensures)
+of_store-requires g c =
+    boxes_read c.args.store.now c.in-Ok-Here.tree c.in-Ok-Here.boxes
+    (subst (IsReadFrom c.args.store.now) c.in-Ok-Here.field-0-is c.in-Ok-Here.ensures)
 
 -- the root boxes are those of the container
 pub check-requires : goal.check-requires
-check-requires g c = subst (HasRootsInside (g.S.Source.len c.args.source.now)) (sym c.opened_external-opened.ensures.container) c.requires
+check-requires g c =
+    subst (HasRootsInside (g.S.Source.len c.args.source.now)) (sym c.opened_external-opened.ensures.container)
+    c.requires
 
 pub returns-in-Ok-check-clause-answer : goal.returns-in-Ok-check-clause-answer
 returns-in-Ok-check-clause-answer g c = λ file known.
     let said = (panel_says (map (λ j. (goal.Judge-dyn g (j.vtable, j.value)).says j.value) c.args.judges.now.items)) in
-    list_answered c.one_media.ensures.read c.one_reading.ensures.manifests c.one_opening.ensures.store
+    list_answered
     g.H.Hashing.digest_of said c.args.container.now c.args.store.now file c.in-Ok-Here.tree c.in-Ok-Here.boxes
     c.in-Ok.chain.readings c.answer.result (le-ltb MAX_STORE_LEN (length c.args.store.now)
     (omega (arith, c.if-store.false))) (subst (IsReadFrom c.args.store.now) c.in-Ok-Here.field-0-is
@@ -69,7 +77,7 @@ returns-in-Ok-check-clause-answer g c = λ file known.
 pub returns-in-Ok-check-clause-panel : goal.returns-in-Ok-check-clause-panel
 returns-in-Ok-check-clause-panel g c =
     hears_later _ _ _ validate_heard validate_heard (ListAsks g.H.Hashing.digest_of c.args.store.now) (StoreAsks g.H.Hashing.digest_of c.opened_external-opened.result) c.args.judges.now c.check.new.judges c.in-Ok-check.checked _ tt
-    (λ qs asks. list_asks c.one_reading.ensures.manifests c.one_opening.ensures.store g.H.Hashing.digest_of
+    (λ qs asks. list_asks g.H.Hashing.digest_of
     c.args.store.now (panel_says (map (λ j. (goal.Judge-dyn g (j.vtable, j.value)).says j.value)
     c.args.judges.now.items)) c.in-Ok-Here.tree c.in-Ok-Here.boxes c.in-Ok.chain.readings qs
     (le-ltb MAX_STORE_LEN (length c.args.store.now) (omega (arith, c.if-store.false)))
@@ -81,7 +89,7 @@ returns-in-Ok-check-clause-panel g c =
 pub returns-clause-panel : goal.returns-clause-panel
 returns-clause-panel g c =
     hears_error _ _ _ validate_heard validate_heard (ListAsks g.H.Hashing.digest_of c.args.store.now) (StoreAsks g.H.Hashing.digest_of c.opened_external-opened.result) c.args.judges.now c.check.new.judges c.in-Err-check.error c.in-Err-check.error refl
-    (λ qs asks. list_asks c.one_reading.ensures.manifests c.one_opening.ensures.store g.H.Hashing.digest_of
+    (λ qs asks. list_asks g.H.Hashing.digest_of
     c.args.store.now (panel_says (map (λ j. (goal.Judge-dyn g (j.vtable, j.value)).says j.value)
     c.args.judges.now.items)) c.in-Ok-Here.tree c.in-Ok-Here.boxes c.in-Ok.chain.readings qs
     (le-ltb MAX_STORE_LEN (length c.args.store.now) (omega (arith, c.if-store.false)))

@@ -14,7 +14,10 @@ use Rattle.c2_validate.proofs.external.check_with.Goals as goal
 -- ---- the source failed, or memory ran out
 
 pub returns-in-Err-clause-panel : goal.returns-in-Err-clause-panel
-returns-in-Err-clause-panel g c = hears_early _ _ _ validate_heard (AsksKnown (g.S.Source.known c.args.source.now) (ExternalAsks g.H.Hashing.digest_of c.args.store.now)) c.args.judges.now c.in-Err.error (part_heard _ _ c.in-Err.error c.in-Err.ensures.cause)
+returns-in-Err-clause-panel g c =
+    hears_early _ _ _ validate_heard
+    (AsksKnown (g.S.Source.known c.args.source.now) (ExternalAsks g.H.Hashing.digest_of c.args.store.now))
+    c.args.judges.now c.in-Err.error (part_heard _ _ c.in-Err.error c.in-Err.ensures.cause)
 
 -- ---- the file has a store, which passes
 
@@ -28,7 +31,10 @@ returns-in-Here-clause-answer g c = λ file known.
 
 pub returns-in-Here-clause-panel : goal.returns-in-Here-clause-panel
 returns-in-Here-clause-panel g c =
-    hears_same _ _ _ validate_heard (AsksKnown (g.S.Source.known c.args.source.now) (ExternalAsks g.H.Hashing.digest_of c.args.store.now)) (ListAsks g.H.Hashing.digest_of c.args.store.now) c.args.judges.now c.check_external.new.judges c.check_external.result
+    hears_same _ _ _ validate_heard
+    (AsksKnown (g.S.Source.known c.args.source.now) (ExternalAsks g.H.Hashing.digest_of c.args.store.now))
+    (ListAsks g.H.Hashing.digest_of c.args.store.now) c.args.judges.now c.check_external.new.judges
+    c.check_external.result
     (λ qs asks. asks_found g.H.Hashing.digest_of c.args.store.now asks.0
     (panel_says (map (λ j. (goal.Judge-dyn g (j.vtable, j.value)).says j.value) c.args.judges.now.items))
     (opened.Here c.in-Here.media) qs (subst (IsFound asks.0) c.in-Here.is (c.in-Ok.ensures.found asks.0 asks.1)) asks.2)
@@ -65,7 +71,9 @@ returns-in-Refused-clause-answer g c = λ file known.
 
 pub returns-in-Refused-clause-panel : goal.returns-in-Refused-clause-panel
 returns-in-Refused-clause-panel g c =
-    hears_nobody _ _ _ validate_heard (AsksKnown (g.S.Source.known c.args.source.now) (ExternalAsks g.H.Hashing.digest_of c.args.store.now)) c.args.judges.now _
+    hears_nobody _ _ _ validate_heard
+    (AsksKnown (g.S.Source.known c.args.source.now) (ExternalAsks g.H.Hashing.digest_of c.args.store.now))
+    c.args.judges.now _
     (λ qs asks. asks_found g.H.Hashing.digest_of c.args.store.now asks.0
     (panel_says (map (λ j. (goal.Judge-dyn g (j.vtable, j.value)).says j.value) c.args.judges.now.items))
     (opened.Refused c.in-Refused.reason c.in-Refused.number) qs

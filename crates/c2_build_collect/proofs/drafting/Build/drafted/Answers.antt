@@ -1,36 +1,49 @@
-use Rattle.std.proofs.Common.{inl, map, ℕ, ◌∙◌, subst}
+use Rattle.c2_collect_spec.proofs.TheLaws.{the_length_of_a_collected_store_fits_fits}
+use Rattle.std.proofs.Common.{inl, map, ℕ, sym, ◌∙◌, subst}
 use Rattle.std.specs.Prelude.{Err}
 use Rattle.std.proofs.lemmas.Result.{IfErr-weaker, IfOk-weaker}
 use Rattle.c2_spec.specs.Judges.Panel.{panel_says}
-use Rattle.c2_without_store.specs.Clears.{cleared_len}
-use Rattle.c2_new_store_spec.specs.Store.{new_alg}
-use Rattle.c2_collect_spec.proofs.SomeOutcome.{LeftLaws}
+use Rattle.c2_calls_spec.proofs.SourceLemmas.{reads_then}
+use Rattle.c2_container.specs.Contained.{IsWithin}
+use Rattle.c2_without_store.specs.declared.clearing.Clearing.{Clearing}
+use Rattle.c2_new_file_spec.specs.Store.{new_alg}
 use Rattle.c2_build_refusals.specs.Kinds.{WithoutFault}
-use Rattle.c2_build_refusals.proofs.Judged.{hears_behind, hears_failed, read_result}
-use Rattle.c2_build_refusals.proofs.Outside.{alone, outside_map, reads_earlier}
-use Rattle.c2_build_parts.specs.Bound.{IsSmall}
-use Rattle.c2_build_drafts.specs.Drafts.{IsDraftedOver, IsRefusedAt, draft_effects}
-use Rattle.c2_build_drafts.proofs.Causes.{drafts_behind}
+use Rattle.c2_build_refusals.proofs.Judged.{hears_behind, hears_failed, older_result}
+use Rattle.c2_build_refusals.proofs.Outside.{older_results, outside_map}
+use Rattle.c2_build_base.specs.Grounds.{IsSomeGround}
+use Rattle.c2_build_drafts.specs.Drafts.{IsDraftedOver, IsOpenedIn, IsRefusedAt}
 use Rattle.c2_build_collect_base.specs.Grounds.{ground_effects, opening_of}
-use Rattle.c2_build_collect.proofs.Drafts.{can_draft, draft_of, over, over_form, over_kept}
+use Rattle.c2_build_collect.proofs.Drafts.{draft_of, over, over_kept, over_len}
 use Rattle.c2_build_collect.proofs.Stages.{opened_as, opened_kind}
 use Rattle.c2_build_collect.proofs.drafting.Build.drafted.Goals as goal
 
 -- ---- something of both files is refused
 
 pub returns-in-Err-clause-drafted : goal.returns-in-Err-clause-drafted
-returns-in-Err-clause-drafted g c = λ bytes known kind is others told of_file. outside_map c.in-Err.error (λ h. inl h) (c.in-Err.ensures.ground bytes known kind is others told)
+returns-in-Err-clause-drafted g c =
+    λ bytes known kind is others told of_file. outside_map c.in-Err.error (λ h. inl h) (c.in-Err.ensures.ground bytes known kind is others told)
 
 pub returns-in-Err-clause-media : goal.returns-in-Err-clause-media
-returns-in-Err-clause-media g c = record { stays = c.in-Err.ensures.media.stays; quiet = tt; cause = c.in-Err.ensures.media.cause }
+returns-in-Err-clause-media g c =
+    record { stays = c.in-Err.ensures.media.stays; quiet = tt; cause = c.in-Err.ensures.media.cause }
 
 pub returns-in-Err-clause-other : goal.returns-in-Err-clause-other
-returns-in-Err-clause-other g c = record { stays = c.in-Err.ensures.other.stays; quiet = tt; cause = c.in-Err.ensures.other.cause }
+returns-in-Err-clause-other g c =
+    record { stays = c.in-Err.ensures.other.stays; quiet = tt; cause = c.in-Err.ensures.other.cause }
 
 pub returns-in-Err-clause-panel : goal.returns-in-Err-clause-panel
-returns-in-Err-clause-panel g c = hears_failed c.args.judges.now c.ground.new.judges c.in-Err.error (λ qs asks. asks) c.in-Err.ensures.panel
+returns-in-Err-clause-panel g c =
+    hears_failed c.args.judges.now c.ground.new.judges c.in-Err.error (λ qs asks. asks) c.in-Err.ensures.panel
 
--- ---- its place is, or a test there fails; or none does
+-- ---- what was opened tells its place
+
+pub draft_in_place-requires-clause-within : goal.draft_in_place-requires-clause-within
+draft_in_place-requires-clause-within g c = (g.A.Source.len c.args.media.now, c.requires.within)
+
+pub draft_in_place-requires-clause-clears : goal.draft_in_place-requires-clause-clears
+draft_in_place-requires-clause-clears g c = c.in-Ok.ensures.some.clears ∙ c.requires.clears
+
+-- ---- a test there fails, or none does
 
 pub returns-clause-drafted : goal.returns-clause-drafted
 returns-clause-drafted g c = λ bytes known kind is others told.
@@ -44,28 +57,30 @@ returns-clause-drafted g c = λ bytes known kind is others told.
     let stage = opened_as bytes kind is.stage in
     let ground = over hash said bytes others what d k kept.0 opened stage kept.1 kept.2 in
     let is_kept = over_kept hash said bytes others what d k kept.0 opened stage kept.1 kept.2 in
-    let has_form = c.form_of-form.ensures bytes is.container in
-    let law = c.each_media_has_a_place.ensures.container in
-    let laws : LeftLaws = record { fresh = c.each_media_has_a_place.ensures.fresh; left = c.each_media_has_a_place.ensures.left; place = c.each_media_has_a_place.ensures.place } in
-    let form = over_form hash said bytes others what d k kept.0 opened stage kept.1 kept.2 law c.form_of-form.result has_form in
+    let within =
+    subst (λ (n : ℕ). IsWithin n c.args.self.now.file.now.contained.now)
+    (sym (g.met.A.Source.known_len c.args.media.now bytes known)) c.requires.within in
+    let file : IsOpenedIn bytes c.args.self.now.file.now.contained.now = record { found = is.found; within = within } in
     draft_of hash said bytes others what d k kept.0 opened stage kept.1 kept.2 c.draft_in_place.result
-    (IfOk-weaker c.draft_in_place.result _ (λ w. IsDraftedOver (hash (new_alg d)) bytes d w ground) (λ w at. at bytes (c.in-Ok.ensures.media.stays.same_bytes ∙ known) (hash (new_alg d)) ground is_kept form) c.draft_in_place.ensures.passed)
-    (λ of_file. IfErr-weaker c.draft_in_place.result _ (λ e. WithoutFault e (IsRefusedAt ground e)) (λ e refused. refused bytes (c.in-Ok.ensures.media.stays.same_bytes ∙ known) (hash (new_alg d)) ground is_kept
-    (can_draft hash said bytes others what d k kept.0 opened stage kept.1 kept.2 law laws c.the_length_of_a_collected_store_fits.ensures.fits of_file c.form_of-form.result has_form)) c.draft_in_place.ensures.refused)
+    (IfOk-weaker c.draft_in_place.result _ (λ w. IsDraftedOver (hash (new_alg d)) bytes d w ground) (λ w at. at bytes (hash (new_alg d)) ground file is_kept) c.draft_in_place.ensures.passed)
+    (λ of_file. IfErr-weaker c.draft_in_place.result _ (λ e. WithoutFault e (IsRefusedAt ground e)) (λ e refused. refused bytes (hash (new_alg d)) ground file is_kept
+    (over_len hash said bytes others what d k kept.0 opened stage kept.1 kept.2 the_length_of_a_collected_store_fits_fits of_file)) c.draft_in_place.ensures.refused)
 
 pub returns-clause-small : goal.returns-clause-small
 returns-clause-small g c =
     let d = c.args.self.now.definition in
     let h = g.H.Hashing.digest_of (new_alg d) in
-    IfOk-weaker c.draft_in_place.result _ _ (λ w small. subst (λ (n : ℕ). IsSmall h (cleared_len w.ground.clearing n) d w) c.in-Ok.ensures.media.stays.same_len (small h c.in-Ok.ensures.some)) c.draft_in_place.ensures.small
+    IfOk-weaker c.draft_in_place.result _ _ (λ w small. small (g.A.Source.len c.args.media.now) h c.requires.within (subst (λ (x : Clearing). IsSomeGround h d x c.in-Ok.ground) c.requires.clears c.in-Ok.ensures.some)) c.draft_in_place.ensures.small
 
 pub returns-clause-media : goal.returns-clause-media
-returns-clause-media g c = drafts_behind ground_effects tt c.args.media.now c.ground.new.media c.draft_in_place.new.media c.in-Ok.ground c.draft_in_place.result c.in-Ok.ensures.media c.draft_in_place.ensures.reads
+returns-clause-media g c =
+    reads_then _ _ _ _ _ c.args.media.now c.ground.new.media c.in-Ok.ground c.draft_in_place.result (older_results _ ground_effects _ _ c.draft_in_place.result tt c.in-Ok.ensures.media.quiet c.draft_in_place.ensures.quiet) c.in-Ok.ensures.media
 
 pub returns-clause-other : goal.returns-clause-other
 returns-clause-other g c =
-    let media = drafts_behind ground_effects {Other = ⊥} tt c.args.media.now c.ground.new.media c.draft_in_place.new.media c.in-Ok.ground c.draft_in_place.result c.in-Ok.ensures.media c.draft_in_place.ensures.reads in
-    reads_earlier ground_effects c.args.other.now c.ground.new.other _ _ c.draft_in_place.result c.in-Ok.ensures.other.stays c.in-Ok.ensures.other.quiet (alone (λ rose. rose)) media.cause
+    reads_then _ _ _ _ _ c.args.other.now c.ground.new.other c.in-Ok.ground c.draft_in_place.result (older_results _ ground_effects _ _ c.draft_in_place.result tt c.in-Ok.ensures.other.quiet c.draft_in_place.ensures.quiet) c.in-Ok.ensures.other
 
 pub returns-clause-panel : goal.returns-clause-panel
-returns-clause-panel g c = hears_behind c.args.judges.now c.ground.new.judges c.in-Ok.ground _ (read_result draft_effects _ _ c.draft_in_place.result c.draft_in_place.ensures.reads.cause) (λ qs asks. asks) c.in-Ok.ensures.panel
+returns-clause-panel g c =
+    hears_behind c.args.judges.now c.ground.new.judges c.in-Ok.ground _
+    (older_result c.draft_in_place.result c.draft_in_place.ensures.quiet) (λ qs asks. asks) c.in-Ok.ensures.panel

@@ -2,7 +2,7 @@ use Rattle.std.proofs.Common.{map, subst, sym, ℕ, ◌∙◌}
 use Rattle.std.specs.Prelude.{Err}
 use Rattle.std.proofs.lemmas.Result.{IfOk-weaker}
 use Rattle.c2_spec.specs.Judges.Panel.{panel_says}
-use Rattle.c2_new_store_spec.specs.Store.{new_alg}
+use Rattle.c2_new_file_spec.specs.Store.{new_alg}
 use Rattle.c2_without_store.specs.Clears.{cleared_len}
 use Rattle.c2_collect_spec.specs.Outcomes.{IsPairStage, IsPlannedOver, Then, ground_signed}
 use Rattle.c2_build_collect_base.specs.Grounds.{ground_effects, opening_of}
@@ -22,13 +22,16 @@ returns-in-Err-clause-planned g c = λ of_file bytes known kind is others told.
     outside_map c.in-Err.error (planned_refused g.H.Hashing.digest_of said bytes others (opening_of kind) c.args.self.now.definition c.in-Err.error) (c.in-Err.ensures.drafted bytes known kind is others told of_file)
 
 pub returns-in-Err-clause-media : goal.returns-in-Err-clause-media
-returns-in-Err-clause-media g c = record { stays = c.in-Err.ensures.media.stays; quiet = tt; cause = c.in-Err.ensures.media.cause }
+returns-in-Err-clause-media g c =
+    record { stays = c.in-Err.ensures.media.stays; quiet = tt; cause = c.in-Err.ensures.media.cause }
 
 pub returns-in-Err-clause-other : goal.returns-in-Err-clause-other
-returns-in-Err-clause-other g c = record { stays = c.in-Err.ensures.other.stays; quiet = tt; cause = c.in-Err.ensures.other.cause }
+returns-in-Err-clause-other g c =
+    record { stays = c.in-Err.ensures.other.stays; quiet = tt; cause = c.in-Err.ensures.other.cause }
 
 pub returns-in-Err-clause-panel : goal.returns-in-Err-clause-panel
-returns-in-Err-clause-panel g c = hears_failed c.args.judges.now c.drafted.new.judges c.in-Err.error (λ qs asks. asks) c.in-Err.ensures.panel
+returns-in-Err-clause-panel g c =
+    hears_failed c.args.judges.now c.drafted.new.judges c.in-Err.error (λ qs asks. asks) c.in-Err.ensures.panel
 
 -- ---- this is to be signed, where neither the media fails nor memory
 
@@ -44,7 +47,8 @@ returns-clause-planned g c = λ of_file bytes known kind is others told.
     let d = c.args.self.now.definition in
     let what = opening_of kind in
     let at = c.in-Ok.ensures.drafted bytes known kind is others told in
-    planned_by (Then (IsPairStage hash said bytes others what d) (IsPlannedOver hash d)) c.signed_draft.result (ground_signed hash d at.ground)
+    planned_by (Then (IsPairStage hash said bytes others what d) (IsPlannedOver hash d)) c.signed_draft.result
+    (ground_signed hash d at.ground)
     (IfOk-weaker c.signed_draft.result _ _ (λ tbs signed. signed bytes (c.in-Ok.ensures.media.stays.same_bytes ∙ known) (ground_of at.ground) at.ground.place at.over) c.signed_draft.ensures.signed)
     c.signed_draft.ensures.nothing (passed_plan hash said bytes others what d at.ground at.passed)
 
@@ -54,8 +58,14 @@ returns-clause-media g c =
 
 pub returns-clause-other : goal.returns-clause-other
 returns-clause-other g c =
-    let media = reads_behind ground_effects {Other = ⊥} c.args.media.now c.drafted.new.media c.signed_draft.new.media c.in-Ok.drafted c.signed_draft.result c.in-Ok.ensures.media c.signed_draft.ensures.reads.stays c.signed_draft.ensures.reads.quiet c.signed_draft.ensures.reads.cause in
+    let media =
+    reads_behind ground_effects {Other = ⊥} c.args.media.now c.drafted.new.media c.signed_draft.new.media
+    c.in-Ok.drafted c.signed_draft.result c.in-Ok.ensures.media c.signed_draft.ensures.reads.stays
+    c.signed_draft.ensures.reads.quiet c.signed_draft.ensures.reads.cause in
     reads_earlier ground_effects c.args.other.now c.drafted.new.other _ _ c.signed_draft.result c.in-Ok.ensures.other.stays c.in-Ok.ensures.other.quiet (alone (λ rose. rose)) media.cause
 
 pub returns-clause-panel : goal.returns-clause-panel
-returns-clause-panel g c = hears_behind c.args.judges.now c.drafted.new.judges c.in-Ok.drafted _ (read_result no_effects _ _ c.signed_draft.result c.signed_draft.ensures.reads.cause) (λ qs asks. asks) c.in-Ok.ensures.panel
+returns-clause-panel g c =
+    hears_behind c.args.judges.now c.drafted.new.judges c.in-Ok.drafted _
+    (read_result no_effects _ _ c.signed_draft.result c.signed_draft.ensures.reads.cause) (λ qs asks. asks)
+    c.in-Ok.ensures.panel

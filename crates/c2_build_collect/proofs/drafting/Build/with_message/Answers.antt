@@ -20,13 +20,18 @@ returns-in-Err-clause-build g c = λ of_file bytes known kind is others told.
     outside_map c.in-Err.error (made_refused g.H.Hashing.digest_of said bytes others (opening_of kind) c.args.self.definition (parts_of c.args.sign.now) c.in-Err.error) (c.in-Err.ensures.drafted bytes known kind is others told of_file)
 
 pub returns-in-Err-clause-media : goal.returns-in-Err-clause-media
-returns-in-Err-clause-media g c = record { stays = c.in-Err.ensures.media.stays; quiet = tt; cause = ground_prepares _ _ _ _ c.in-Err.ensures.media.cause }
+returns-in-Err-clause-media g c =
+    record
+    { stays = c.in-Err.ensures.media.stays; quiet = tt; cause = ground_prepares _ _ _ _ c.in-Err.ensures.media.cause }
 
 pub returns-in-Err-clause-other : goal.returns-in-Err-clause-other
-returns-in-Err-clause-other g c = record { stays = c.in-Err.ensures.other.stays; quiet = tt; cause = ground_prepares _ _ _ _ c.in-Err.ensures.other.cause }
+returns-in-Err-clause-other g c =
+    record
+    { stays = c.in-Err.ensures.other.stays; quiet = tt; cause = ground_prepares _ _ _ _ c.in-Err.ensures.other.cause }
 
 pub returns-in-Err-clause-panel : goal.returns-in-Err-clause-panel
-returns-in-Err-clause-panel g c = hears_failed c.args.judges.now c.drafted.new.judges c.in-Err.error (λ qs asks. asks) c.in-Err.ensures.panel
+returns-in-Err-clause-panel g c =
+    hears_failed c.args.judges.now c.drafted.new.judges c.in-Err.error (λ qs asks. asks) c.in-Err.ensures.panel
 
 -- ---- the message doesn't fit
 
@@ -53,16 +58,23 @@ returns-in-Err-padded-clause-panel g c =
 pub returns-in-Ok-padded-clause-build : goal.returns-in-Ok-padded-clause-build
 returns-in-Ok-padded-clause-build g c = λ of_file bytes known kind is others told.
     let said = panel_says (map (λ j. (goal.Judge-dyn g (j.vtable, j.value)).says j.value) c.args.judges.now.items) in
-    draft_makes g.H.Hashing.digest_of said bytes others (opening_of kind) c.args.self.definition c.a_message_fills_its_reserve_or_needs_more.ensures (parts_of c.args.sign.now) c.in-Ok.drafted c.in-Ok-padded.message (c.in-Ok.ensures.drafted bytes known kind is others told) c.in-Ok-padded.ensures.signed
+    draft_makes g.H.Hashing.digest_of said bytes others (opening_of kind) c.args.self.definition
+    c.a_message_fills_its_reserve_or_needs_more.ensures (parts_of c.args.sign.now) c.in-Ok.drafted
+    c.in-Ok-padded.message (c.in-Ok.ensures.drafted bytes known kind is others told) c.in-Ok-padded.ensures.signed
 
 pub returns-in-Ok-padded-clause-fits : goal.returns-in-Ok-padded-clause-fits
-returns-in-Ok-padded-clause-fits g c = record { formed = c.requires.read.formed; small = c.in-Ok.ensures.small; filled = c.in-Ok-padded.ensures.signed.filled }
+returns-in-Ok-padded-clause-fits g c =
+    record
+    { formed = c.requires.read.formed; small = c.in-Ok.ensures.small; filled = c.in-Ok-padded.ensures.signed.filled }
 
 pub returns-in-Ok-padded-clause-media : goal.returns-in-Ok-padded-clause-media
-returns-in-Ok-padded-clause-media g c = reads_then _ _ _ _ _ c.args.media.now c.drafted.new.media c.in-Ok.drafted _ tt c.in-Ok.ensures.media
+returns-in-Ok-padded-clause-media g c =
+    reads_then _ _ _ _ _ c.args.media.now c.drafted.new.media c.in-Ok.drafted _ tt c.in-Ok.ensures.media
 
 pub returns-in-Ok-padded-clause-other : goal.returns-in-Ok-padded-clause-other
-returns-in-Ok-padded-clause-other g c = reads_then _ _ _ _ _ c.args.other.now c.drafted.new.other c.in-Ok.drafted _ tt c.in-Ok.ensures.other
+returns-in-Ok-padded-clause-other g c =
+    reads_then _ _ _ _ _ c.args.other.now c.drafted.new.other c.in-Ok.drafted _ tt c.in-Ok.ensures.other
 
 pub returns-in-Ok-padded-clause-panel : goal.returns-in-Ok-padded-clause-panel
-returns-in-Ok-padded-clause-panel g c = hears_behind c.args.judges.now c.drafted.new.judges c.in-Ok.drafted _ tt (λ qs asks. asks) c.in-Ok.ensures.panel
+returns-in-Ok-padded-clause-panel g c =
+    hears_behind c.args.judges.now c.drafted.new.judges c.in-Ok.drafted _ tt (λ qs asks. asks) c.in-Ok.ensures.panel

@@ -22,16 +22,17 @@ returns-in-Err-clause-planned g c = λ file known bytes told others due.
     outside_map c.in-Err.error (λ s. refused_first (collect.IsMediaStage file) _ c.in-Err.error (media_error file c.in-Err.error s)) (c.in-Err.ensures.stage file (c.requires.found file known))
 
 pub returns-in-Err-clause-not_due : goal.returns-in-Err-clause-not_due
-returns-in-Err-clause-not_due g c = record { definition_unread = λ file known refused. refl; other_unread_first = λ file known refused. refl; other_unread = λ bytes known refused. refl }
+returns-in-Err-clause-not_due g c =
+    record
+    { definition_unread = λ file known refused. refl; other_unread_first = λ file known refused. refl; other_unread = λ bytes known refused. refl }
 
-pub returns-in-Err-clause-media : goal.returns-in-Err-clause-media
-returns-in-Err-clause-media g c = reads_nothing _ _ _ _ c.args.media.now _ (quiet_cause _ ground_effects _ _ _ refl c.in-Err.ensures.quiet)
-
-pub returns-in-Err-clause-definition : goal.returns-in-Err-clause-definition
-returns-in-Err-clause-definition g c = reads_nothing _ _ _ _ c.args.definition.now _ (quiet_cause _ ground_effects _ _ _ refl c.in-Err.ensures.quiet)
-
-pub returns-in-Err-clause-other : goal.returns-in-Err-clause-other
-returns-in-Err-clause-other g c = reads_nothing _ _ _ _ c.args.other.now _ (quiet_cause _ ground_effects _ _ _ refl c.in-Err.ensures.quiet)
+pub returns-in-Err-clause-sources : goal.returns-in-Err-clause-sources
+returns-in-Err-clause-sources g c = record {
+  media = reads_nothing _ _ _ _ c.args.media.now _ (quiet_cause _ ground_effects _ _ _ refl c.in-Err.ensures.quiet);
+  definition =
+      reads_nothing _ _ _ _ c.args.definition.now _ (quiet_cause _ ground_effects _ _ _ refl c.in-Err.ensures.quiet);
+  other = reads_nothing _ _ _ _ c.args.other.now _ (quiet_cause _ ground_effects _ _ _ refl c.in-Err.ensures.quiet);
+}
 
 pub returns-in-Err-clause-panel : goal.returns-in-Err-clause-panel
 returns-in-Err-clause-panel g c =
@@ -46,27 +47,33 @@ returns-in-Err-read_definition_file-clause-planned g c = λ file known bytes due
     let said = panel_says (map (λ j. (goal.Judge-dyn g (j.vtable, j.value)).says j.value) c.args.judges.now.items) in
     let e = c.in-Err-read_definition_file.error in
     let media = c.in-Ok.ensures.stage file (c.requires.found file known) in
-    let told = definition_told c.one_opening.ensures.file g.H.Hashing.digest_of said file media.0 media.2.stage (g.B.Source.known c.args.definition.now) bytes due in
+    let told =
+    definition_told c.one_opening.ensures.file g.H.Hashing.digest_of said file media.0 media.2.stage
+    (g.B.Source.known c.args.definition.now) bytes due in
     outside_map e (λ s. refused_next (collect.IsMediaStage file) _ (opening_of media.0) e (opened_as file media.0 media.2.stage)
     (refused_first (collect.IsDefinitionStage bytes) _ e (definition_error bytes e s))) (c.in-Err-read_definition_file.ensures.stage bytes told)
 
 pub returns-in-Err-read_definition_file-clause-not_due : goal.returns-in-Err-read_definition_file-clause-not_due
 returns-in-Err-read_definition_file-clause-not_due g c = record {
-  definition_unread = λ file known refused. let media = c.in-Ok.ensures.stage file (c.requires.found file known) in not_both_media c.one_opening.ensures.file file media.0 media.2.stage refused;
+  definition_unread = λ file known refused. let media = c.in-Ok.ensures.stage file (c.requires.found file known) in not_both_media file media.0 media.2.stage refused;
   other_unread_first = λ file known refused. refl;
   other_unread = λ bytes known refused. refl;
 }
 
-pub returns-in-Err-read_definition_file-clause-media : goal.returns-in-Err-read_definition_file-clause-media
-returns-in-Err-read_definition_file-clause-media g c =
-    reads_earlier ground_effects c.args.media.now c.args.media.now _ _ (Err c.in-Err-read_definition_file.error) (stays_as_it_was _ _ _ c.args.media.now) refl (alone inl) (plain_cause _ ground_effects _ _ _ c.in-Err-read_definition_file.ensures.cause)
-
-pub returns-in-Err-read_definition_file-clause-definition : goal.returns-in-Err-read_definition_file-clause-definition
-returns-in-Err-read_definition_file-clause-definition g c = record { stays = c.in-Err-read_definition_file.ensures.stays; quiet = tt; cause = plain_cause _ ground_effects _ _ _ c.in-Err-read_definition_file.ensures.cause }
-
-pub returns-in-Err-read_definition_file-clause-other : goal.returns-in-Err-read_definition_file-clause-other
-returns-in-Err-read_definition_file-clause-other g c =
-    reads_earlier ground_effects c.args.other.now c.args.other.now _ _ (Err c.in-Err-read_definition_file.error) (stays_as_it_was _ _ _ c.args.other.now) refl (alone inr) (plain_cause _ ground_effects _ _ _ c.in-Err-read_definition_file.ensures.cause)
+pub returns-in-Err-read_definition_file-clause-sources : goal.returns-in-Err-read_definition_file-clause-sources
+returns-in-Err-read_definition_file-clause-sources g c = record {
+  media =
+      reads_earlier ground_effects c.args.media.now c.args.media.now _ _ (Err c.in-Err-read_definition_file.error)
+      (stays_as_it_was _ _ _ c.args.media.now) refl (alone inl)
+      (plain_cause _ ground_effects _ _ _ c.in-Err-read_definition_file.ensures.cause);
+  definition =
+      record
+      { stays = c.in-Err-read_definition_file.ensures.stays; quiet = tt; cause = plain_cause _ ground_effects _ _ _ c.in-Err-read_definition_file.ensures.cause };
+  other =
+      reads_earlier ground_effects c.args.other.now c.args.other.now _ _ (Err c.in-Err-read_definition_file.error)
+      (stays_as_it_was _ _ _ c.args.other.now) refl (alone inr)
+      (plain_cause _ ground_effects _ _ _ c.in-Err-read_definition_file.ensures.cause);
+}
 
 pub returns-in-Err-read_definition_file-clause-panel : goal.returns-in-Err-read_definition_file-clause-panel
 returns-in-Err-read_definition_file-clause-panel g c =
@@ -78,7 +85,9 @@ returns-in-Err-read_definition_file-clause-panel g c =
 -- ---- what comes behind the media and the definition
 
 pub planned-requires : goal.planned-requires
-planned-requires g c = record { read = c.in-Ok.ensures.inside (g.A.Source.len c.args.media.now) c.requires.inside; formed = c.in-Ok-read_definition_file.ensures.formed }
+planned-requires g c =
+    record
+    { read = c.in-Ok.ensures.inside (g.A.Source.len c.args.media.now) c.requires.inside; formed = c.in-Ok-read_definition_file.ensures.formed }
 
 pub returns-clause-planned : goal.returns-clause-planned
 returns-clause-planned g c = λ file known bytes due others undue.
@@ -88,11 +97,15 @@ returns-clause-planned g c = λ file known bytes due others undue.
     let one = c.one_opening.ensures.file in
     let defined = c.each_definition_is_read_one_way.ensures.one in
     let media = c.in-Ok.ensures.stage file (c.requires.found file known) in
-    let told = definition_told one hash said file media.0 media.2.stage (g.B.Source.known c.args.definition.now) bytes due in
+    let told =
+    definition_told one hash said file media.0 media.2.stage (g.B.Source.known c.args.definition.now) bytes due in
     let stage = c.in-Ok-read_definition_file.ensures.stage bytes told in
     let as_read = defined_as bytes d stage in
-    let own = other_told one hash said file media.0 media.2.stage {NotDue = IsDefinitionRefused bytes} (g.D.Source.known c.args.other.now) others (undefined defined d bytes stage) undue in
-    answer_next (collect.IsMediaStage file) _ (opening_of media.0) c.planned.result (opened_as file media.0 media.2.stage)
+    let own =
+    other_told one hash said file media.0 media.2.stage {NotDue = IsDefinitionRefused bytes}
+    (g.D.Source.known c.args.other.now) others (undefined d bytes stage) undue in
+    answer_next (collect.IsMediaStage file) _ (opening_of media.0) c.planned.result
+    (opened_as file media.0 media.2.stage)
     (answer_next (collect.IsDefinitionStage bytes) _ d c.planned.result as_read (c.planned.ensures.planned (bytes, defined_of bytes d as_read) file known media.0 media.2 others own))
 
 pub returns-clause-not_due : goal.returns-clause-not_due
@@ -101,21 +114,22 @@ returns-clause-not_due g c =
     let hash = g.H.Hashing.digest_of in
     let one = c.one_opening.ensures.file in
     record {
-      definition_unread = λ file known refused. let media = c.in-Ok.ensures.stage file (c.requires.found file known) in not_both_media one file media.0 media.2.stage refused;
+      definition_unread = λ file known refused. let media = c.in-Ok.ensures.stage file (c.requires.found file known) in not_both_media file media.0 media.2.stage refused;
       other_unread_first = λ file known refused. let media = c.in-Ok.ensures.stage file (c.requires.found file known) in
           c.planned.ensures.not_due file known media.0 media.2 (not_accepted one hash said file media.0 media.2.stage refused);
-      other_unread = λ bytes known refused. absurd (undefined c.each_definition_is_read_one_way.ensures.one c.in-Ok-read_definition_file.definition bytes (c.in-Ok-read_definition_file.ensures.stage bytes known) refused);
+      other_unread =
+          λ bytes known refused. absurd (undefined c.in-Ok-read_definition_file.definition bytes (c.in-Ok-read_definition_file.ensures.stage bytes known) refused);
     }
 
-pub returns-clause-media : goal.returns-clause-media
-returns-clause-media g c = reads_among ground_effects c.args.media.now c.planned.new.media c.planned.result inr c.planned.ensures.media
-
-pub returns-clause-definition : goal.returns-clause-definition
-returns-clause-definition g c =
-    reads_earlier ground_effects c.args.definition.now c.read_definition_file.new.file _ _ c.planned.result c.in-Ok-read_definition_file.ensures.stays c.in-Ok-read_definition_file.ensures.count (λ failed. failed) c.planned.ensures.media.cause
-
-pub returns-clause-other : goal.returns-clause-other
-returns-clause-other g c = reads_among ground_effects c.args.other.now c.planned.new.other c.planned.result inl c.planned.ensures.other
+pub returns-clause-sources : goal.returns-clause-sources
+returns-clause-sources g c = record {
+  media = reads_among ground_effects c.args.media.now c.planned.new.media c.planned.result inr c.planned.ensures.media;
+  definition =
+      reads_earlier ground_effects c.args.definition.now c.read_definition_file.new.file _ _ c.planned.result
+      c.in-Ok-read_definition_file.ensures.stays c.in-Ok-read_definition_file.ensures.count (λ failed. failed)
+      c.planned.ensures.media.cause;
+  other = reads_among ground_effects c.args.other.now c.planned.new.other c.planned.result inl c.planned.ensures.other;
+}
 
 pub returns-clause-panel : goal.returns-clause-panel
 returns-clause-panel g c =

@@ -1,7 +1,7 @@
 use Rattle.std.proofs.Common.{inl, map, subst, sym, ℕ, ◌∙◌}
 use Rattle.std.proofs.lemmas.Result.{IfOk-weaker}
 use Rattle.c2_spec.specs.Judges.Panel.{panel_says}
-use Rattle.c2_new_store_spec.specs.Store.{new_alg}
+use Rattle.c2_new_file_spec.specs.Store.{new_alg}
 use Rattle.c2_collect_spec.specs.Outcomes.{IsCollectMade}
 use Rattle.c2_build_in_place.specs.Writings.{CanWrite}
 use Rattle.c2_build_refusals.specs.Kinds.{no_effects}
@@ -17,30 +17,36 @@ use Rattle.c2_build_collect.proofs.ready.Maker.prepare.Goals as goal
 
 pub returns-in-Err-clause-prepared : goal.returns-in-Err-clause-prepared
 returns-in-Err-clause-prepared g c = record {
-  ready = λ file known bytes due signed due' others undue. c.in-Err.ensures.build.build file known bytes due signed due' others undue;
+  ready =
+      λ file known bytes due signed due' others undue. c.in-Err.ensures.build.build file known bytes due signed due' others undue;
   texts = λ bytes known. tt;
   can_write = tt;
 }
 
-pub returns-in-Err-clause-media : goal.returns-in-Err-clause-media
-returns-in-Err-clause-media g c = record { stays = c.in-Err.ensures.media.stays; quiet = tt; cause = c.in-Err.ensures.media.cause }
-
-pub returns-in-Err-clause-definition : goal.returns-in-Err-clause-definition
-returns-in-Err-clause-definition g c = record { stays = c.in-Err.ensures.definition.stays; quiet = tt; cause = c.in-Err.ensures.definition.cause }
-
-pub returns-in-Err-clause-message : goal.returns-in-Err-clause-message
-returns-in-Err-clause-message g c = record { stays = c.in-Err.ensures.message.stays; quiet = tt; cause = c.in-Err.ensures.message.cause }
-
-pub returns-in-Err-clause-other : goal.returns-in-Err-clause-other
-returns-in-Err-clause-other g c = record { stays = c.in-Err.ensures.other.stays; quiet = tt; cause = c.in-Err.ensures.other.cause }
+pub returns-in-Err-clause-sources : goal.returns-in-Err-clause-sources
+returns-in-Err-clause-sources g c = record {
+  media =
+      record { stays = c.in-Err.ensures.sources.media.stays; quiet = tt; cause = c.in-Err.ensures.sources.media.cause };
+  definition =
+      record
+      { stays = c.in-Err.ensures.sources.definition.stays; quiet = tt; cause = c.in-Err.ensures.sources.definition.cause };
+  message =
+      record
+      { stays = c.in-Err.ensures.sources.message.stays; quiet = tt; cause = c.in-Err.ensures.sources.message.cause };
+  other =
+      record { stays = c.in-Err.ensures.sources.other.stays; quiet = tt; cause = c.in-Err.ensures.sources.other.cause };
+}
 
 pub returns-in-Err-clause-panel : goal.returns-in-Err-clause-panel
-returns-in-Err-clause-panel g c = hears_failed c.args.judges.now c.draft.new.judges c.in-Err.error (λ qs asks. asks) c.in-Err.ensures.panel
+returns-in-Err-clause-panel g c =
+    hears_failed c.args.judges.now c.draft.new.judges c.in-Err.error (λ qs asks. asks) c.in-Err.ensures.panel
 
 -- ---- what is ready is the new file
 
 pub make_ready-requires : goal.make_ready-requires
-make_ready-requires g c = subst (λ (n : ℕ). FitsMedia g.H.Hashing.digest_of n c.in-Ok.build) (sym c.in-Ok.ensures.media.stays.same_len) c.in-Ok.ensures.build.fits
+make_ready-requires g c =
+    subst (λ (n : ℕ). FitsMedia g.H.Hashing.digest_of n c.in-Ok.build)
+    (sym c.in-Ok.ensures.sources.media.stays.same_len) c.in-Ok.ensures.build.fits
 
 pub returns-clause-prepared : goal.returns-clause-prepared
 returns-clause-prepared g c = record {
@@ -51,28 +57,30 @@ returns-clause-prepared g c = record {
       let m = c.in-Ok.ensures.build.build file known bytes due signed due' others undue in
       ready_made hash file (IsCollectMade hash said file bytes signed others) b c.make_ready.result m
       (IfOk-weaker c.make_ready.result _ (IsPutReady (hash (new_alg b.definition)) file (ground_of m.ground) m.ground.place b.message)
-      (λ r h. h file (c.in-Ok.ensures.media.stays.same_bytes ∙ known) (ground_of m.ground) m.ground.place m.over) c.make_ready.ensures.ready) c.make_ready.ensures.nothing;
+      (λ r h. h file (c.in-Ok.ensures.sources.media.stays.same_bytes ∙ known) (ground_of m.ground) m.ground.place m.over) c.make_ready.ensures.ready) c.make_ready.ensures.nothing;
   texts = λ bytes known. on_any c.make_ready.result (c.in-Ok.ensures.build.texts bytes known);
-  can_write = IfOk-weaker c.make_ready.result _ _ (λ r can. subst (λ (n : ℕ). CanWrite n r) c.in-Ok.ensures.media.stays.same_len can) c.make_ready.ensures.can_write;
+  can_write =
+      IfOk-weaker c.make_ready.result _ _
+      (λ r can. subst (λ (n : ℕ). CanWrite n r) c.in-Ok.ensures.sources.media.stays.same_len can)
+      c.make_ready.ensures.can_write;
 }
 
-pub returns-clause-media : goal.returns-clause-media
-returns-clause-media g c = reads_behind prepare_effects c.args.media.now c.draft.new.media c.make_ready.new.media c.in-Ok.build c.make_ready.result c.in-Ok.ensures.media c.make_ready.ensures.reads.stays c.make_ready.ensures.reads.quiet c.make_ready.ensures.reads.cause
-
-pub returns-clause-definition : goal.returns-clause-definition
-returns-clause-definition g c =
-    let media = reads_behind prepare_effects {Other = ⊥} c.args.media.now c.draft.new.media c.make_ready.new.media c.in-Ok.build c.make_ready.result c.in-Ok.ensures.media c.make_ready.ensures.reads.stays c.make_ready.ensures.reads.quiet c.make_ready.ensures.reads.cause in
-    reads_earlier prepare_effects c.args.definition.now c.draft.new.definition _ _ c.make_ready.result c.in-Ok.ensures.definition.stays c.in-Ok.ensures.definition.quiet (alone inl) media.cause
-
-pub returns-clause-message : goal.returns-clause-message
-returns-clause-message g c =
-    let media = reads_behind prepare_effects {Other = ⊥} c.args.media.now c.draft.new.media c.make_ready.new.media c.in-Ok.build c.make_ready.result c.in-Ok.ensures.media c.make_ready.ensures.reads.stays c.make_ready.ensures.reads.quiet c.make_ready.ensures.reads.cause in
-    reads_earlier prepare_effects c.args.signature.now c.draft.new.signature _ _ c.make_ready.result c.in-Ok.ensures.message.stays c.in-Ok.ensures.message.quiet (alone inl) media.cause
-
-pub returns-clause-other : goal.returns-clause-other
-returns-clause-other g c =
-    let media = reads_behind prepare_effects {Other = ⊥} c.args.media.now c.draft.new.media c.make_ready.new.media c.in-Ok.build c.make_ready.result c.in-Ok.ensures.media c.make_ready.ensures.reads.stays c.make_ready.ensures.reads.quiet c.make_ready.ensures.reads.cause in
-    reads_earlier prepare_effects c.args.other.now c.draft.new.other _ _ c.make_ready.result c.in-Ok.ensures.other.stays c.in-Ok.ensures.other.quiet (alone inl) media.cause
+pub returns-clause-sources : goal.returns-clause-sources
+returns-clause-sources g c = record {
+  media =
+      reads_behind prepare_effects c.args.media.now c.draft.new.media c.make_ready.new.media c.in-Ok.build
+      c.make_ready.result c.in-Ok.ensures.sources.media c.make_ready.ensures.reads.stays
+      c.make_ready.ensures.reads.quiet c.make_ready.ensures.reads.cause;
+  definition = let media = reads_behind prepare_effects {Other = ⊥} c.args.media.now c.draft.new.media c.make_ready.new.media c.in-Ok.build c.make_ready.result c.in-Ok.ensures.sources.media c.make_ready.ensures.reads.stays c.make_ready.ensures.reads.quiet c.make_ready.ensures.reads.cause in
+      reads_earlier prepare_effects c.args.definition.now c.draft.new.definition _ _ c.make_ready.result c.in-Ok.ensures.sources.definition.stays c.in-Ok.ensures.sources.definition.quiet (alone inl) media.cause;
+  message = let media = reads_behind prepare_effects {Other = ⊥} c.args.media.now c.draft.new.media c.make_ready.new.media c.in-Ok.build c.make_ready.result c.in-Ok.ensures.sources.media c.make_ready.ensures.reads.stays c.make_ready.ensures.reads.quiet c.make_ready.ensures.reads.cause in
+      reads_earlier prepare_effects c.args.signature.now c.draft.new.signature _ _ c.make_ready.result c.in-Ok.ensures.sources.message.stays c.in-Ok.ensures.sources.message.quiet (alone inl) media.cause;
+  other = let media = reads_behind prepare_effects {Other = ⊥} c.args.media.now c.draft.new.media c.make_ready.new.media c.in-Ok.build c.make_ready.result c.in-Ok.ensures.sources.media c.make_ready.ensures.reads.stays c.make_ready.ensures.reads.quiet c.make_ready.ensures.reads.cause in
+      reads_earlier prepare_effects c.args.other.now c.draft.new.other _ _ c.make_ready.result c.in-Ok.ensures.sources.other.stays c.in-Ok.ensures.sources.other.quiet (alone inl) media.cause;
+}
 
 pub returns-clause-panel : goal.returns-clause-panel
-returns-clause-panel g c = hears_behind c.args.judges.now c.draft.new.judges c.in-Ok.build c.make_ready.result (read_result no_effects _ _ c.make_ready.result c.make_ready.ensures.reads.cause) (λ qs asks. asks) c.in-Ok.ensures.panel
+returns-clause-panel g c =
+    hears_behind c.args.judges.now c.draft.new.judges c.in-Ok.build c.make_ready.result
+    (read_result no_effects _ _ c.make_ready.result c.make_ready.ensures.reads.cause) (λ qs asks. asks)
+    c.in-Ok.ensures.panel

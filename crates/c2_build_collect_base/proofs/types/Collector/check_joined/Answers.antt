@@ -7,7 +7,9 @@ use Rattle.c2_build_collect_base.proofs.types.Collector.check_joined.Goals as go
 -- the label is taken
 pub returns-then-has_label-clause-tested : goal.returns-then-has_label-clause-tested
 returns-then-has_label-clause-tested g c = λ is_in reached.
-    taken_told c.args.self.now.definition.now (collected_readings (old_readings c.args.ours.now) (readings_of c.args.theirs.now)) is_in c.label_taken.result (sym c.has_label.ensures ∙ c.if-has_label.true) c.label_taken.ensures.told
+    taken_told c.args.self.now.definition.now
+    (collected_readings (old_readings c.args.ours.now) (readings_of c.args.theirs.now)) is_in c.label_taken.result
+    (sym c.has_label.ensures ∙ c.if-has_label.true) c.label_taken.ensures.told
 
 -- no redaction is refused
 pub returns-in-Ok-None-clause-tested : goal.returns-in-Ok-None-clause-tested

@@ -1,5 +1,5 @@
 use Rattle.std.proofs.Common.{List, [], ◌++◌, ◌∙◌, ◌∷◌, ap, subst, sym}
-use Rattle.c2_new_store_spec.specs.Store.{new_alg}
+use Rattle.c2_new_file_spec.specs.Store.{new_alg}
 use Rattle.c2_definition.specs.declared.types.NewAssertion.{NewAssertion}
 use Rattle.c2_build_collect_base.specs.Steps.{NameLast, boxes_of}
 use Rattle.c2_build_collect_base.proofs.Named.{one_named}
@@ -11,4 +11,6 @@ returns g c =
     let of = g.H.Hashing.digest_of (new_alg c.args.self.now.definition.now) in
     let redacts = c.args.redactions.now in
     let other = boxes_of c.args.theirs.now in
-    subst (NameLast of redacts (other ∷ [])) (sym (c.in_ok-push.ensures.items ∙ ap (λ (xs : List NewAssertion). xs ++ c.in_ok-one.one ∷ []) c.new-all.ensures.items)) (one_named of redacts other c.in_ok-one.one c.in_ok-one.ensures)
+    subst (NameLast of redacts (other ∷ []))
+    (sym (c.in_ok-push.ensures.items ∙ ap (λ (xs : List NewAssertion). xs ++ c.in_ok-one.one ∷ []) c.new-all.ensures.items))
+    (one_named of redacts other c.in_ok-one.one c.in_ok-one.ensures)

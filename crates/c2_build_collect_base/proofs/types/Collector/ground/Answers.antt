@@ -4,7 +4,7 @@ use Rattle.c2_spec.specs.Jumbf.Tree.{Tree}
 use Rattle.c2_spec.specs.Located.{Opening, absent}
 use Rattle.c2_calls_spec.proofs.SourceLemmas.{stays_as_it_was}
 use Rattle.c2_collect_spec.specs.Outcomes.{IsJoinedStage, IsOtherStage, IsPairStage, IsParentStage, Then}
-use Rattle.c2_new_store_spec.specs.Store.{new_alg}
+use Rattle.c2_new_file_spec.specs.Store.{new_alg}
 use Rattle.c2_build_refusals.proofs.Judged.{hears_as}
 use Rattle.c2_build_refusals.proofs.Outside.{alone, reads_among, reads_earlier}
 use Rattle.c2_build_collect_base.specs.Grounds.{IsGroundOf, IsParentRefused, ground_effects, opening_of}
@@ -22,16 +22,25 @@ returns-in_default-clause-ground g c = λ bytes known kind is others told.
     let file = c.args.file.now in
     let what = fresh_opening bytes file kind c.in_default.is is in
     let passed = fresh_passes hash said bytes _ refl (fresh_clear bytes file kind c.in_default.is is) in
-    let due = told_others hash said bytes (opening_of kind) (g.D.Source.known c.args.other.now) others (λ refused. passed.only (subst (λ (w : Opening Tree). IsParentRefused hash said bytes w) what refused)) told in
-    subst (λ (w : Opening Tree). IsGroundOf (hash (new_alg d)) bytes d (IsPairStage hash said bytes others w d) c.with_other.result) (sym what)
+    let due =
+    told_others hash said bytes (opening_of kind) (g.D.Source.known c.args.other.now) others
+    (λ refused. passed.only (subst (λ (w : Opening Tree). IsParentRefused hash said bytes w) what refused))
+    told in
+    subst
+    (λ (w : Opening Tree). IsGroundOf (hash (new_alg d)) bytes d (IsPairStage hash said bytes others w d) c.with_other.result)
+    (sym what)
     (ground_next (hash (new_alg d)) bytes d (IsParentStage hash said bytes absent) (λ m. Then (IsOtherStage hash said others) (IsJoinedStage d m)) passed.media c.with_other.result passed.stage
     (c.with_other.ensures.ground others due bytes passed.media passed.is_ours))
 
 pub returns-in_default-clause-media : goal.returns-in_default-clause-media
-returns-in_default-clause-media g c = reads_earlier ground_effects c.args.media.now c.args.media.now _ _ c.with_other.result (stays_as_it_was _ _ _ c.args.media.now) refl (alone (λ rose. rose)) c.with_other.ensures.reads.cause
+returns-in_default-clause-media g c =
+    reads_earlier ground_effects c.args.media.now c.args.media.now _ _ c.with_other.result
+    (stays_as_it_was _ _ _ c.args.media.now) refl (alone (λ rose. rose)) c.with_other.ensures.reads.cause
 
 pub returns-in_default-clause-other : goal.returns-in_default-clause-other
-returns-in_default-clause-other g c = reads_among ground_effects c.args.other.now c.with_other.new.other c.with_other.result (λ none. absurd none) c.with_other.ensures.reads
+returns-in_default-clause-other g c =
+    reads_among ground_effects c.args.other.now c.with_other.new.other c.with_other.result (λ none. absurd none)
+    c.with_other.ensures.reads
 
 pub returns-in_default-clause-not_due : goal.returns-in_default-clause-not_due
 returns-in_default-clause-not_due g c = λ bytes known kind is refused.

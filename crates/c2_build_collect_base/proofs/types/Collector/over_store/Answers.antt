@@ -12,7 +12,7 @@ use Rattle.c2_collect_spec.specs.Outcomes.{IsJoinedStage, IsOtherStage, IsPairSt
 use Rattle.c2_container.specs.Contained.{HasRootsInside}
 use Rattle.c2_rules.specs.Claims.{Chained}
 use Rattle.c2_rules.specs.Readings.{AreReadings}
-use Rattle.c2_new_store_spec.specs.Store.{new_alg}
+use Rattle.c2_new_file_spec.specs.Store.{new_alg}
 use Rattle.c2_build_base.specs.Grounds.{HasBoxes}
 use Rattle.c2_build_base.proofs.Opened.{opened_from, opened_older}
 use Rattle.c2_build_refusals.proofs.Outside.{alone, outside_map, reads_among, reads_earlier}
@@ -40,7 +40,9 @@ pub of_store-requires : goal.of_store-requires
 of_store-requires g c = subst HasBoxes c.requires.older c.requires.read.boxes
 
 pub check_parent-requires : goal.check_parent-requires
-check_parent-requires g c = subst (HasRootsInside (g.A.Source.len c.args.media.now)) (sym c.opened_in-store.ensures.container) c.requires.read.inside
+check_parent-requires g c =
+    subst (HasRootsInside (g.A.Source.len c.args.media.now)) (sym c.opened_in-store.ensures.container)
+    c.requires.read.within.roots
 
 -- ---- its check refuses it
 
@@ -52,15 +54,21 @@ returns-in-Err-check_parent-clause-ground g c = λ bytes known kind is others to
     let file = c.args.file.now in
     let o = c.args.older.now in
     let e = c.in-Err-check_parent.error in
-    let from = opened_from bytes file o kind c.opened_in-store.result c.requires.older is c.opened_in-store.ensures.container c.opened_in-store.ensures.range
+    let from =
+    opened_from bytes file o kind c.opened_in-store.result c.requires.older is c.opened_in-store.ensures.container
+    c.opened_in-store.ensures.range
     (subst (λ (x : Chained). AreReadings (manifests_of o.tree) x.readings) (sym c.opened_in-store.ensures.chain) c.in-Ok.ensures.reads) in
-    subst (λ (what : Opening Tree). IsGroundOf (hash (new_alg d)) bytes d (IsPairStage hash said bytes others what d) (Err e)) (sym (stored_opening bytes file o kind c.requires.older is))
+    subst
+    (λ (what : Opening Tree). IsGroundOf (hash (new_alg d)) bytes d (IsPairStage hash said bytes others what d) (Err e))
+    (sym (stored_opening bytes file o kind c.requires.older is))
     (ground_first (hash (new_alg d)) bytes d (IsParentStage hash said bytes (here o.range.start o.range.length o.tree)) (λ m. Then (IsOtherStage hash said others) (IsJoinedStage d m)) e
-    (parent_refuses c.one_opening.ensures.file hash said bytes o.range.start o.range.length o.tree file.clearing e (opened_older bytes file o kind c.requires.older is) (stored_left bytes file o kind c.requires.older is)
+    (parent_refuses hash said bytes o.range.start o.range.length o.tree file.clearing e (opened_older bytes file o kind c.requires.older is) (stored_left bytes file o kind c.requires.older is)
     (c.in-Err-check_parent.ensures.refused bytes known from)))
 
 pub returns-in-Err-check_parent-clause-media : goal.returns-in-Err-check_parent-clause-media
-returns-in-Err-check_parent-clause-media g c = record { stays = c.in-Err-check_parent.ensures.reads.stays; quiet = tt; cause = asks_ground _ _ _ _ c.in-Err-check_parent.ensures.reads.cause }
+returns-in-Err-check_parent-clause-media g c =
+    record
+    { stays = c.in-Err-check_parent.ensures.reads.stays; quiet = tt; cause = asks_ground _ _ _ _ c.in-Err-check_parent.ensures.reads.cause }
 
 pub returns-in-Err-check_parent-clause-other : goal.returns-in-Err-check_parent-clause-other
 returns-in-Err-check_parent-clause-other g c =
@@ -73,21 +81,27 @@ returns-in-Err-check_parent-clause-panel g c =
     let file = c.args.file.now in
     let o = c.args.older.now in
     let e = c.in-Err-check_parent.error in
-    let reads = subst (λ (x : Chained). AreReadings (manifests_of o.tree) x.readings) (sym c.opened_in-store.ensures.chain) c.in-Ok.ensures.reads in
+    let reads =
+    subst (λ (x : Chained). AreReadings (manifests_of o.tree) x.readings) (sym c.opened_in-store.ensures.chain)
+    c.in-Ok.ensures.reads in
     hears_begun c.args.judges.now c.check_parent.new.judges e (asks_unwritten _ _ _ c.in-Err-check_parent.ensures.reads.cause)
     (stored_begins c.one_reading.ensures.manifests hash said (g.A.Source.known c.args.media.now) (g.D.Source.known c.args.other.now) file o c.opened_in-store.result e c.requires.older reads
     (λ bytes kind known is.
     let opened = opened_older bytes file o kind c.requires.older is in
-    let from = opened_from bytes file o kind c.opened_in-store.result c.requires.older is c.opened_in-store.ensures.container c.opened_in-store.ensures.range reads in
+    let from =
+    opened_from bytes file o kind c.opened_in-store.result c.requires.older is
+    c.opened_in-store.ensures.container c.opened_in-store.ensures.range reads in
     outside_map e
-    (λ refused m stage. parent_only c.one_opening.ensures.file c.one_reading.ensures.store hash said bytes o.range.start o.range.length o.tree e opened refused m
+    (λ refused m stage. parent_only hash said bytes o.range.start o.range.length o.tree e opened refused m
     (subst (λ (what : Opening Tree). IsParentStage hash said bytes what (Ok m)) (stored_opening bytes file o kind c.requires.older is) stage))
     (c.in-Err-check_parent.ensures.refused bytes known from))) c.in-Err-check_parent.ensures.panel
 
 -- ---- the other file is read
 
 pub with_other-requires : goal.with_other-requires
-with_other-requires g c = read_store c.args.older.now _ c.store_with.result c.store_with.ensures.older c.store_with.ensures.chain (subst HasBoxes c.requires.older c.requires.read.boxes) c.in-Ok.ensures.reads
+with_other-requires g c =
+    read_store c.args.older.now _ c.store_with.result c.store_with.ensures.older c.store_with.ensures.chain
+    (subst HasBoxes c.requires.older c.requires.read.boxes) c.in-Ok.ensures.reads
 
 pub returns-clause-ground : goal.returns-clause-ground
 returns-clause-ground g c = λ bytes known kind is others told.
@@ -97,13 +111,22 @@ returns-clause-ground g c = λ bytes known kind is others told.
     let file = c.args.file.now in
     let o = c.args.older.now in
     let what = stored_opening bytes file o kind c.requires.older is in
-    let from = opened_from bytes file o kind c.opened_in-store.result c.requires.older is c.opened_in-store.ensures.container c.opened_in-store.ensures.range
+    let from =
+    opened_from bytes file o kind c.opened_in-store.result c.requires.older is c.opened_in-store.ensures.container
+    c.opened_in-store.ensures.range
     (subst (λ (x : Chained). AreReadings (manifests_of o.tree) x.readings) (sym c.opened_in-store.ensures.chain) c.in-Ok.ensures.reads) in
-    let passed = stored_passes c.one_opening.ensures.file c.one_reading.ensures.manifests c.one_reading.ensures.store c.a_store_is_rooted_at_its_last_manifest.ensures hash said bytes o c.store_with.result file.clearing c.store_with.ensures.older
+    let passed =
+    stored_passes c.one_reading.ensures.manifests c.a_store_is_rooted_at_its_last_manifest.ensures hash said bytes o
+    c.store_with.result file.clearing c.store_with.ensures.older
     (opened_older bytes file o kind c.requires.older is) (stored_left bytes file o kind c.requires.older is) (c.in-Ok-check_parent.ensures.checked bytes known from)
     (read_store o _ c.store_with.result c.store_with.ensures.older c.store_with.ensures.chain (subst HasBoxes c.requires.older c.requires.read.boxes) c.in-Ok.ensures.reads) in
-    let due = told_others hash said bytes (opening_of kind) (g.D.Source.known c.args.other.now) others (λ refused. passed.only (subst (λ (w : Opening Tree). IsParentRefused hash said bytes w) what refused)) told in
-    subst (λ (w : Opening Tree). IsGroundOf (hash (new_alg d)) bytes d (IsPairStage hash said bytes others w d) c.with_other.result) (sym what)
+    let due =
+    told_others hash said bytes (opening_of kind) (g.D.Source.known c.args.other.now) others
+    (λ refused. passed.only (subst (λ (w : Opening Tree). IsParentRefused hash said bytes w) what refused))
+    told in
+    subst
+    (λ (w : Opening Tree). IsGroundOf (hash (new_alg d)) bytes d (IsPairStage hash said bytes others w d) c.with_other.result)
+    (sym what)
     (ground_next (hash (new_alg d)) bytes d (IsParentStage hash said bytes (here o.range.start o.range.length o.tree)) (λ m. Then (IsOtherStage hash said others) (IsJoinedStage d m)) passed.media c.with_other.result passed.stage
     (subst (λ (f : List (Question → Verdict)). IsGroundOf (hash (new_alg d)) bytes d (Then (IsOtherStage hash (panel_says f) others) (IsJoinedStage d passed.media)) c.with_other.result) c.in-Ok-check_parent.ensures.panel.stays.same
     (c.with_other.ensures.ground others due bytes passed.media passed.is_ours)))
@@ -114,12 +137,17 @@ returns-clause-not_due g c = λ bytes known kind is refused.
     let hash = g.H.Hashing.digest_of in
     let file = c.args.file.now in
     let o = c.args.older.now in
-    let from = opened_from bytes file o kind c.opened_in-store.result c.requires.older is c.opened_in-store.ensures.container c.opened_in-store.ensures.range
+    let from =
+    opened_from bytes file o kind c.opened_in-store.result c.requires.older is c.opened_in-store.ensures.container
+    c.opened_in-store.ensures.range
     (subst (λ (x : Chained). AreReadings (manifests_of o.tree) x.readings) (sym c.opened_in-store.ensures.chain) c.in-Ok.ensures.reads) in
-    let passed = stored_passes c.one_opening.ensures.file c.one_reading.ensures.manifests c.one_reading.ensures.store c.a_store_is_rooted_at_its_last_manifest.ensures hash said bytes o c.store_with.result file.clearing c.store_with.ensures.older
+    let passed =
+    stored_passes c.one_reading.ensures.manifests c.a_store_is_rooted_at_its_last_manifest.ensures hash said bytes o
+    c.store_with.result file.clearing c.store_with.ensures.older
     (opened_older bytes file o kind c.requires.older is) (stored_left bytes file o kind c.requires.older is) (c.in-Ok-check_parent.ensures.checked bytes known from)
     (read_store o _ c.store_with.result c.store_with.ensures.older c.store_with.ensures.chain (subst HasBoxes c.requires.older c.requires.read.boxes) c.in-Ok.ensures.reads) in
-    absurd (passed.only (subst (λ (w : Opening Tree). IsParentRefused hash said bytes w) (stored_opening bytes file o kind c.requires.older is) refused))
+    absurd
+    (passed.only (subst (λ (w : Opening Tree). IsParentRefused hash said bytes w) (stored_opening bytes file o kind c.requires.older is) refused))
 
 pub returns-clause-panel : goal.returns-clause-panel
 returns-clause-panel g c =
@@ -127,12 +155,16 @@ returns-clause-panel g c =
     let hash = g.H.Hashing.digest_of in
     let file = c.args.file.now in
     let o = c.args.older.now in
-    let reads = subst (λ (x : Chained). AreReadings (manifests_of o.tree) x.readings) (sym c.opened_in-store.ensures.chain) c.in-Ok.ensures.reads in
+    let reads =
+    subst (λ (x : Chained). AreReadings (manifests_of o.tree) x.readings) (sym c.opened_in-store.ensures.chain)
+    c.in-Ok.ensures.reads in
     hears_both c.args.judges.now c.check_parent.new.judges c.with_other.new.judges tt c.with_other.result
     (stored_asked c.one_reading.ensures.manifests hash said (g.A.Source.known c.args.media.now) (g.D.Source.known c.args.other.now) file o c.opened_in-store.result c.requires.older reads
     (λ bytes kind known is refused.
-    let from = opened_from bytes file o kind c.opened_in-store.result c.requires.older is c.opened_in-store.ensures.container c.opened_in-store.ensures.range reads in
-    (stored_passes c.one_opening.ensures.file c.one_reading.ensures.manifests c.one_reading.ensures.store c.a_store_is_rooted_at_its_last_manifest.ensures hash said bytes o c.store_with.result file.clearing c.store_with.ensures.older
+    let from =
+    opened_from bytes file o kind c.opened_in-store.result c.requires.older is
+    c.opened_in-store.ensures.container c.opened_in-store.ensures.range reads in
+    (stored_passes c.one_reading.ensures.manifests c.a_store_is_rooted_at_its_last_manifest.ensures hash said bytes o c.store_with.result file.clearing c.store_with.ensures.older
     (opened_older bytes file o kind c.requires.older is) (stored_left bytes file o kind c.requires.older is) (c.in-Ok-check_parent.ensures.checked bytes known from)
     (read_store o _ c.store_with.result c.store_with.ensures.older c.store_with.ensures.chain (subst HasBoxes c.requires.older c.requires.read.boxes) c.in-Ok.ensures.reads)).only
     (subst (λ (w : Opening Tree). IsParentRefused hash said bytes w) (stored_opening bytes file o kind c.requires.older is) refused))) c.in-Ok-check_parent.ensures.panel c.with_other.ensures.panel
@@ -142,4 +174,6 @@ returns-clause-media g c =
     reads_earlier ground_effects c.args.media.now c.check_parent.new.media _ _ c.with_other.result c.in-Ok-check_parent.ensures.reads.stays c.in-Ok-check_parent.ensures.reads.quiet (alone (λ rose. rose)) c.with_other.ensures.reads.cause
 
 pub returns-clause-other : goal.returns-clause-other
-returns-clause-other g c = reads_among ground_effects c.args.other.now c.with_other.new.other c.with_other.result (λ none. absurd none) c.with_other.ensures.reads
+returns-clause-other g c =
+    reads_among ground_effects c.args.other.now c.with_other.new.other c.with_other.result (λ none. absurd none)
+    c.with_other.ensures.reads

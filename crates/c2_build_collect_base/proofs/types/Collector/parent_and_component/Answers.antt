@@ -1,5 +1,5 @@
 use Rattle.std.proofs.Common.{List, [], ◌++◌, ◌∙◌, ◌∷◌, ap, subst, sym}
-use Rattle.c2_new_store_spec.specs.Store.{new_alg}
+use Rattle.c2_new_file_spec.specs.Store.{new_alg}
 use Rattle.c2_definition.specs.declared.types.NewAssertion.{NewAssertion}
 use Rattle.c2_build_collect_base.specs.Steps.{NameLast, boxes_of}
 use Rattle.c2_build_collect_base.proofs.Named.{two_named}
@@ -14,5 +14,9 @@ returns g c =
     let component = c.in_ok-component.component in
     let old = boxes_of c.args.ours.now in
     let other = boxes_of c.args.theirs.now in
-    let items = c.in_ok-push-2.ensures.items ∙ ap (λ (xs : List NewAssertion). xs ++ component ∷ []) (c.in_ok-push.ensures.items ∙ ap (λ (xs : List NewAssertion). xs ++ parent ∷ []) c.new-all.ensures.items) in
-    subst (NameLast of redacts (old ∷ other ∷ [])) (sym items) (two_named of redacts old other parent component c.in_ok-parent.ensures c.in_ok-component.ensures)
+    let items =
+    c.in_ok-push-2.ensures.items
+    ∙ ap (λ (xs : List NewAssertion). xs ++ component ∷ [])
+    (c.in_ok-push.ensures.items ∙ ap (λ (xs : List NewAssertion). xs ++ parent ∷ []) c.new-all.ensures.items) in
+    subst (NameLast of redacts (old ∷ other ∷ [])) (sym items)
+    (two_named of redacts old other parent component c.in_ok-parent.ensures c.in_ok-component.ensures)

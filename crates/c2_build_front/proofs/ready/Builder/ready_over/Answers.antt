@@ -1,3 +1,4 @@
+use Rattle.c2_new_signature.proofs.TheLaws.{a_message_fills_its_reserve_or_needs_more}
 use Rattle.std.proofs.Common.{ap, length, subst, sym, ◌∙◌, ℕ}
 use Rattle.std.specs.Prelude.{Err}
 use Rattle.c2_bmff_binding_front.specs.Putting.{FitsIn}
@@ -22,7 +23,9 @@ returns-in-Err-clause-ready g c = λ bytes known kind is size.
     outside_map c.in-Err.error (refused_over bytes is.stage.0 d c.in-Err.error (IsMadeIn hash bytes d p) (made_refuses hash bytes d p)) (c.in-Err.ensures.refused bytes known kind is size)
 
 pub returns-in-Err-clause-reads : goal.returns-in-Err-clause-reads
-returns-in-Err-clause-reads g c = record { stays = c.in-Err.ensures.reads.stays; quiet = tt; cause = plan_prepares _ _ _ c.in-Err.ensures.reads.cause }
+returns-in-Err-clause-reads g c =
+    record
+    { stays = c.in-Err.ensures.reads.stays; quiet = tt; cause = plan_prepares _ _ _ c.in-Err.ensures.reads.cause }
 
 -- ---- the message needs more
 
@@ -32,12 +35,16 @@ returns-in-Err-padded-clause-ready g c = λ bytes known kind is size.
     outside_map c.in-Err-padded.error (reserve_refused g.H.Hashing.digest_of bytes is.stage.0 d c.in-Ok.front (parts_of c.args.sign.now) c.in-Err-padded.error (c.in-Ok.ensures.drafted bytes known kind is)) c.in-Err-padded.ensures.refused
 
 pub returns-in-Err-padded-clause-reads : goal.returns-in-Err-padded-clause-reads
-returns-in-Err-padded-clause-reads g c = reads_then _ _ _ _ _ c.args.media.now c.drafted.new.media c.in-Ok.front (Err c.in-Err-padded.error) (prepares_of _ _ _ c.in-Ok.ensures.reads.quiet (message_prepares _ _ _ (c.in-Err-padded.ensures.cause _))) c.in-Ok.ensures.reads
+returns-in-Err-padded-clause-reads g c =
+    reads_then _ _ _ _ _ c.args.media.now c.drafted.new.media c.in-Ok.front (Err c.in-Err-padded.error)
+    (prepares_of _ _ _ c.in-Ok.ensures.reads.quiet (message_prepares _ _ _ (c.in-Err-padded.ensures.cause _)))
+    c.in-Ok.ensures.reads
 
 -- ---- a new file is ready
 
 pub ready_with-requires-clause-fits : goal.ready_with-requires-clause-fits
-ready_with-requires-clause-fits g c = subst (λ (n : ℕ). FitsIn n c.in-Ok.front) (sym c.in-Ok.ensures.reads.stays.same_len) c.in-Ok.ensures.fits
+ready_with-requires-clause-fits g c =
+    subst (λ (n : ℕ). FitsIn n c.in-Ok.front) (sym c.in-Ok.ensures.reads.stays.same_len) c.in-Ok.ensures.fits
 
 pub ready_with-requires-clause-filled : goal.ready_with-requires-clause-filled
 ready_with-requires-clause-filled g c = ap length c.as_slice.ensures.value ∙ c.in-Ok-padded.ensures.signed.filled
@@ -51,12 +58,14 @@ returns-in-Ok-ready_with-clause-ready g c = λ bytes known kind is size.
     let k = c.in-Ok.ensures.drafted bytes known kind is in
     let signed = subst (IsSigned p d.reserve) (sym c.as_slice.ensures.value) c.in-Ok-padded.ensures.signed in (
       new_file hash bytes k.roots d message,
-      made_of c.a_message_fills_its_reserve_or_needs_more.ensures hash bytes is.stage.0 d c.in-Ok.front p message k signed,
+      made_of a_message_fills_its_reserve_or_needs_more hash bytes is.stage.0 d c.in-Ok.front p message k signed,
       c.in-Ok-ready_with.ensures.ready bytes (c.in-Ok.ensures.reads.stays.same_bytes ∙ known) is.stage.0 k,
     )
 
 pub returns-in-Ok-ready_with-clause-can_write : goal.returns-in-Ok-ready_with-clause-can_write
-returns-in-Ok-ready_with-clause-can_write g c = subst (λ (n : ℕ). CanWrite n c.in-Ok-ready_with.ready) c.in-Ok.ensures.reads.stays.same_len c.in-Ok-ready_with.ensures.can_write
+returns-in-Ok-ready_with-clause-can_write g c =
+    subst (λ (n : ℕ). CanWrite n c.in-Ok-ready_with.ready) c.in-Ok.ensures.reads.stays.same_len
+    c.in-Ok-ready_with.ensures.can_write
 
 pub returns-in-Ok-ready_with-clause-reads : goal.returns-in-Ok-ready_with-clause-reads
 returns-in-Ok-ready_with-clause-reads g c =

@@ -22,13 +22,16 @@ returns-clause-compared g c = λ a known b known'.
 
 pub returns-clause-leaves : goal.returns-clause-leaves
 returns-clause-leaves g c =
-    leaves_on_second c.args.first.now c.compare_stores.new.first c.args.second.now c.accept.new.source c.compare_stores.new.second c.args.report.now c.compare_stores.new.report c.compare_stores.result
+    leaves_on_second c.args.first.now c.compare_stores.new.first c.args.second.now c.accept.new.source
+    c.compare_stores.new.second c.args.report.now c.compare_stores.new.report c.compare_stores.result
     c.in-Ok.ensures.reads.stays c.in-Ok.ensures.reads.quiet
     (leaves_unjudged c.args.first.now c.compare_stores.new.first c.accept.new.source c.compare_stores.new.second c.args.report.now c.compare_stores.new.report c.compare_stores.result
     c.compare_stores.ensures.errors c.compare_stores.ensures.first c.compare_stores.ensures.second c.compare_stores.ensures.report)
 
 pub returns-clause-panel : goal.returns-clause-panel
-returns-clause-panel g c = hears_on c.args.judges.now c.accept.new.judges c.in-Ok.found c.compare_stores.result c.compare_stores.ensures.errors c.in-Ok.ensures.panel
+returns-clause-panel g c =
+    hears_on c.args.judges.now c.accept.new.judges c.in-Ok.found c.compare_stores.result c.compare_stores.ensures.errors
+    c.in-Ok.ensures.panel
 
 -- ---- the second isn't, or the call fails
 
@@ -43,4 +46,6 @@ returns-in-Err-clause-leaves g c =
     leaves_second c.args.first.now c.args.second.now c.accept.new.source c.args.report.now Second c.in-Err.unaccepted c.end.result (λ h. h) c.end.ensures c.in-Err.ensures.reads
 
 pub returns-in-Err-clause-panel : goal.returns-in-Err-clause-panel
-returns-in-Err-clause-panel g c = hears_second Second c.args.judges.now c.accept.new.judges c.in-Err.unaccepted c.end.result c.end.ensures c.in-Err.ensures.panel
+returns-in-Err-clause-panel g c =
+    hears_second Second c.args.judges.now c.accept.new.judges c.in-Err.unaccepted c.end.result c.end.ensures
+    c.in-Err.ensures.panel

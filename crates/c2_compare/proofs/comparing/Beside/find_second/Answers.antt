@@ -1,3 +1,4 @@
+use Rattle.c2_validate.proofs.TheLaws.{a_file_answers_by_what_it_is_opened_as_asks}
 use Rattle.std.proofs.Common.{map, sym, subst, ◌∙◌}
 use Rattle.c2_spec.specs.Judges.Panel.{panel_says}
 use Rattle.c2_compare_spec.specs.declared.compared.Compared.{Compared}
@@ -12,22 +13,28 @@ use Rattle.c2_compare.proofs.comparing.Beside.find_second.Goals as goal
 -- ---- the second file has a store
 
 pub read_second-requires-clause-inside : goal.read_second-requires-clause-inside
-read_second-requires-clause-inside g c = subst (λ n. HasRootsInside n c.in-Ok.two.container) (sym c.in-Ok.ensures.reads.stays.same_len) c.in-Ok.ensures.inside
+read_second-requires-clause-inside g c =
+    subst (λ n. HasRootsInside n c.in-Ok.two.container) (sym c.in-Ok.ensures.reads.stays.same_len)
+    c.in-Ok.ensures.inside
 
 pub read_second-requires-clause-found : goal.read_second-requires-clause-found
-read_second-requires-clause-found g c = λ b known. c.in-Ok.ensures.found b (sym c.in-Ok.ensures.reads.stays.same_bytes ∙ known)
+read_second-requires-clause-found g c =
+    λ b known. c.in-Ok.ensures.found b (sym c.in-Ok.ensures.reads.stays.same_bytes ∙ known)
 
 pub returns-in-Ok-clause-compared : goal.returns-in-Ok-clause-compared
-returns-in-Ok-clause-compared g c = λ a known b known'. c.read_second.ensures.compared a known b (c.in-Ok.ensures.reads.stays.same_bytes ∙ known')
+returns-in-Ok-clause-compared g c =
+    λ a known b known'. c.read_second.ensures.compared a known b (c.in-Ok.ensures.reads.stays.same_bytes ∙ known')
 
 pub returns-in-Ok-clause-leaves : goal.returns-in-Ok-clause-leaves
 returns-in-Ok-clause-leaves g c =
-    leaves_on_second c.args.first.now c.read_second.new.first c.args.second.now c.find.new.source c.read_second.new.second c.args.report.now c.read_second.new.report c.read_second.result
+    leaves_on_second c.args.first.now c.read_second.new.first c.args.second.now c.find.new.source
+    c.read_second.new.second c.args.report.now c.read_second.new.report c.read_second.result
     c.in-Ok.ensures.reads.stays c.in-Ok.ensures.reads.quiet c.read_second.ensures.leaves
 
 pub returns-in-Ok-clause-panel : goal.returns-in-Ok-clause-panel
 returns-in-Ok-clause-panel g c =
-    hears_of_second g.H.Hashing.digest_of (g.B.Source.known c.find.new.source) (g.B.Source.known c.args.second.now) c.args.judges.now c.read_second.new.judges c.read_second.result
+    hears_of_second g.H.Hashing.digest_of (g.B.Source.known c.find.new.source) (g.B.Source.known c.args.second.now)
+    c.args.judges.now c.read_second.new.judges c.read_second.result
     c.in-Ok.ensures.reads.stays.same_bytes c.read_second.ensures.panel
 
 -- ---- it has none, or the call fails
@@ -46,5 +53,5 @@ returns-in-Err-clause-leaves g c =
 pub returns-in-Err-clause-panel : goal.returns-in-Err-clause-panel
 returns-in-Err-clause-panel g c =
     hears_second {T = Compared} Second c.args.judges.now c.args.judges.now c.in-Err.unaccepted c.end.result c.end.ensures
-    (hears_unopened {T = Compared} c.a_file_answers_by_what_it_is_opened_as.ensures.asks g.H.Hashing.digest_of (g.B.Source.known c.args.second.now) c.args.judges.now c.in-Err.unaccepted
+    (hears_unopened {T = Compared} a_file_answers_by_what_it_is_opened_as_asks g.H.Hashing.digest_of (g.B.Source.known c.args.second.now) c.args.judges.now c.in-Err.unaccepted
     (unasked_found _ _ c.in-Err.unaccepted c.in-Err.ensures.reads.cause) (λ file is. c.in-Err.ensures.refused file is))

@@ -1,3 +1,4 @@
+use Rattle.c2_validate.proofs.TheLaws.{a_file_answers_by_what_it_is_opened_as_asks}
 use Rattle.std.proofs.Common.{map, inl, refl, sym, subst}
 use Rattle.c2_spec.specs.C2pa.Manifest.{manifests_of}
 use Rattle.c2_spec.specs.Judges.Panel.{panel_says}
@@ -18,7 +19,8 @@ pub of_store-requires : goal.of_store-requires
 of_store-requires g c = c.in-Ok.ensures.read.boxes
 
 pub check_second-requires-clause-inside : goal.check_second-requires-clause-inside
-check_second-requires-clause-inside g c = subst (HasRootsInside (g.B.Source.len c.args.second.now)) (sym c.opened_in.ensures.container) c.requires.inside
+check_second-requires-clause-inside g c =
+    subst (HasRootsInside (g.B.Source.len c.args.second.now)) (sym c.opened_in.ensures.container) c.requires.inside
 
 pub check_second-requires-clause-opened : goal.check_second-requires-clause-opened
 check_second-requires-clause-opened g c = λ file known.
@@ -39,7 +41,9 @@ returns-in-Err-of_store-clause-panel g c = hears_memory c.args.judges.now
 -- ---- the store is refused, or memory runs out
 
 pub returns-in-Err-clause-leaves : goal.returns-in-Err-clause-leaves
-returns-in-Err-clause-leaves g c = leaves_unread c.args.first.now c.args.second.now c.args.report.now Second c.in-Err.unaccepted c.end.result c.end.ensures c.in-Err.ensures.errors
+returns-in-Err-clause-leaves g c =
+    leaves_unread c.args.first.now c.args.second.now c.args.report.now Second c.in-Err.unaccepted c.end.result
+    c.end.ensures c.in-Err.ensures.errors
 
 pub returns-in-Err-clause-compared : goal.returns-in-Err-clause-compared
 returns-in-Err-clause-compared g c = λ a known b known'.
@@ -51,5 +55,5 @@ returns-in-Err-clause-compared g c = λ a known b known'.
 pub returns-in-Err-clause-panel : goal.returns-in-Err-clause-panel
 returns-in-Err-clause-panel g c =
     hears_second {T = Compared} Second c.args.judges.now c.args.judges.now c.in-Err.unaccepted c.end.result c.end.ensures
-    (hears_unopened {T = Compared} c.a_file_answers_by_what_it_is_opened_as.ensures.asks g.H.Hashing.digest_of (g.B.Source.known c.args.second.now) c.args.judges.now c.in-Err.unaccepted (unasked_read c.in-Err.unaccepted c.in-Err.ensures.errors)
+    (hears_unopened {T = Compared} a_file_answers_by_what_it_is_opened_as_asks g.H.Hashing.digest_of (g.B.Source.known c.args.second.now) c.args.judges.now c.in-Err.unaccepted (unasked_read c.in-Err.unaccepted c.in-Err.ensures.errors)
     (λ file is. c.in-Err.ensures.refused file (c.requires.found file is)))

@@ -1,3 +1,4 @@
+use Rattle.c2_validate.proofs.TheLaws.{a_file_answers_by_what_it_is_opened_as_asks, one_check_answer}
 use Rattle.std.proofs.Common.{map, inl, refl, sym, subst}
 use Rattle.c2_spec.specs.C2pa.Manifest.{manifests_of}
 use Rattle.c2_spec.specs.Judges.Panel.{panel_says}
@@ -18,7 +19,8 @@ pub of_store-requires : goal.of_store-requires
 of_store-requires g c = c.in-Ok.ensures.read.boxes
 
 pub check_first-requires-clause-inside : goal.check_first-requires-clause-inside
-check_first-requires-clause-inside g c = subst (HasRootsInside (g.A.Source.len c.args.first.now)) (sym c.opened_in.ensures.container) c.requires.inside
+check_first-requires-clause-inside g c =
+    subst (HasRootsInside (g.A.Source.len c.args.first.now)) (sym c.opened_in.ensures.container) c.requires.inside
 
 pub check_first-requires-clause-opened : goal.check_first-requires-clause-opened
 check_first-requires-clause-opened g c = λ file known.
@@ -39,7 +41,9 @@ returns-in-Err-of_store-clause-panel g c = hears_memory c.args.judges.now
 -- ---- the store is refused, or memory runs out
 
 pub returns-in-Err-clause-leaves : goal.returns-in-Err-clause-leaves
-returns-in-Err-clause-leaves g c = leaves_unread c.args.first.now c.args.second.now c.args.report.now First c.in-Err.unaccepted c.end.result c.end.ensures c.in-Err.ensures.errors
+returns-in-Err-clause-leaves g c =
+    leaves_unread c.args.first.now c.args.second.now c.args.report.now First c.in-Err.unaccepted c.end.result
+    c.end.ensures c.in-Err.ensures.errors
 
 pub returns-in-Err-clause-compared : goal.returns-in-Err-clause-compared
 returns-in-Err-clause-compared g c = λ a known b due.
@@ -52,7 +56,7 @@ returns-in-Err-clause-panel g c =
     let said = panel_says (map (λ j. (goal.Judge-dyn g (j.vtable, j.value)).says j.value) c.args.judges.now.items) in
     let hash = g.H.Hashing.digest_of in
     let known = g.A.Source.known c.args.first.now in
-    hears_first {T = Compared} c.one_check.ensures.answer hash known (g.B.Source.known c.args.second.now) c.args.judges.now c.args.judges.now c.in-Err.unaccepted c.end.result c.end.ensures
+    hears_first {T = Compared} one_check_answer hash known (g.B.Source.known c.args.second.now) c.args.judges.now c.args.judges.now c.in-Err.unaccepted c.end.result c.end.ensures
     (λ file is. unaccepted_unopened hash said file c.in-Err.unaccepted (c.in-Err.ensures.refused file (c.requires.found file is)))
-    (hears_unopened {T = Compared} c.a_file_answers_by_what_it_is_opened_as.ensures.asks hash known c.args.judges.now c.in-Err.unaccepted (unasked_read c.in-Err.unaccepted c.in-Err.ensures.errors)
+    (hears_unopened {T = Compared} a_file_answers_by_what_it_is_opened_as_asks hash known c.args.judges.now c.in-Err.unaccepted (unasked_read c.in-Err.unaccepted c.in-Err.ensures.errors)
     (λ file is. c.in-Err.ensures.refused file (c.requires.found file is)))

@@ -6,7 +6,8 @@ use Rattle.c2_jpegseg_survey.specs.Keeping.{IsKept}
 use Rattle.c2_jpegseg_survey.proofs.keeping.Kept.pass.Goals as goal
 
 pub returns-then-taken-clause-kept : goal.returns-then-taken-clause-kept
-returns-then-taken-clause-kept c ss s marker len reads k = kept-less (IsKept c.args.self.now) c.args.taken ss s c.if-taken.true k
+returns-then-taken-clause-kept c ss s marker len reads k =
+    kept-less (IsKept c.args.self.now) c.args.taken ss s c.if-taken.true k
 
 pub returns-clause-kept : goal.returns-clause-kept
 returns-clause-kept c ss s marker len reads k = kept-more (IsKept _) c.args.taken ss s c.if-taken.false (record {

@@ -1,5 +1,0 @@
-pub mod Building
-pub mod Answers
-pub mod Asked
-pub mod Meeting
-pub mod Steps

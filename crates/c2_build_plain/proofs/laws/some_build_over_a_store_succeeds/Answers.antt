@@ -1,0 +1,5 @@
+use Rattle.c2_build_plain.proofs.TheLaws.{some_build_over_a_store_succeeds}
+use Rattle.c2_build_plain.proofs.laws.some_build_over_a_store_succeeds.Goals as goal
+
+pub returns : goal.returns
+returns c = some_build_over_a_store_succeeds

@@ -1,4 +1,0 @@
-mod Containers
-mod AtTheEnd
-mod Placing
-mod Restoring

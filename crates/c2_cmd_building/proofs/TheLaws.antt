@@ -1,0 +1,25 @@
+-- The laws of this crate, for the proofs of the crates above it.
+use Rattle.c2_build_plain.proofs.TheLaws.{a_build_asks_one_list_embedding, a_build_asks_one_list_plan, a_build_comes_to_one_thing_embedding, a_build_comes_to_one_thing_plan}
+use Rattle.c2_cmd_building.proofs.Making.{one_embedding}
+use Rattle.c2_cmd_building.specs.Laws.{OneBuildingOutcome, OneBuildingQuestions}
+use Rattle.c2_cmd_building.specs.Outcomes.{plan_outcome, sample_outcome}
+use Rattle.c2_sample.proofs.TheLaws.{a_sample_comes_to_one_thing_asks, a_sample_comes_to_one_thing_sample}
+use Rattle.std.proofs.Common.{ap, sym, ◌∙◌}
+
+-- each command that builds comes to one outcome at most, and asks one list of questions at most
+pub one_building_outcome_outcome : OneBuildingOutcome
+one_building_outcome_outcome = record {
+  plan = λ hash said media definition x y h k. h.2 ∙ ap plan_outcome
+      (a_build_comes_to_one_thing_plan hash said media definition h.0 k.0 h.1 k.1) ∙ sym k.2;
+  embed = one_embedding a_build_comes_to_one_thing_embedding;
+  sample = λ hash said n x y h k. h.2 ∙ ap (sample_outcome n)
+      (a_sample_comes_to_one_thing_sample hash said n h.0 k.0 h.1 k.1) ∙ sym k.2;
+}
+
+-- each command that builds comes to one outcome at most, and asks one list of questions at most
+pub one_building_outcome_questions : OneBuildingQuestions
+one_building_outcome_questions = record {
+  plan = a_build_asks_one_list_plan;
+  embed = a_build_asks_one_list_embedding;
+  sample = a_sample_comes_to_one_thing_asks;
+}

@@ -1,0 +1,19 @@
+-- Answers of calls.
+use Rattle.std.proofs.Common.{Err, Ok, OnOk, Result}
+use Rattle.std.specs.Prelude.{IfOk}
+
+-- two clauses of one answer together
+pub both_if_ok : {T E : Type 0} (r : Result T E) (P Q R : T → Type 0) → ((x : T) → P x → Q x → R x) → IfOk r P
+    → IfOk r Q → IfOk r R
+both_if_ok (Ok x) P Q R f p q = f x p q
+both_if_ok (Err e) P Q R f p q = tt
+
+-- what holds holds of every `Ok`
+pub on_ok : {T E : Type 0} (P : Type 0) (r : Result T E) → P → OnOk r P
+on_ok P (Ok x) h = h
+on_ok P (Err e) h = tt
+
+-- what follows of a result that is there
+pub on_ok_then : {T E : Type 0} {A B : Type 0} (r : Result T E) → (A → B) → OnOk r A → OnOk r B
+on_ok_then (Ok x) f h = f h
+on_ok_then (Err e) f h = tt

@@ -1,4 +1,0 @@
-pub mod Items
-pub mod Building
-pub mod Media
-pub mod Rows

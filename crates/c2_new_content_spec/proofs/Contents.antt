@@ -1,0 +1,186 @@
+-- The new store of a content at a split: its size, what it meets by its content, and what the file meets.
+use Rattle.std.proofs.Common.{◌≡◌, inl, inr, ℕ, ◌≤◌, List, [], ◌∷◌, length, map, None, refl, sym, ap, ◌∙◌, subst, arith, lit<}
+use Rattle.std.specs.List.{AllZip}
+use Rattle.c2_base.specs.declared.limits.TheConstants.{MAX_STORE_LEN}
+use Rattle.c2_base.specs.declared.values.Question.{Question}
+use Rattle.c2_spec.specs.C2pa.Manifest.{store_refusal}
+use Rattle.c2_spec.specs.Jpeg.Segments.{place_after}
+use Rattle.c2_spec.specs.Jumbf.Tree.{IsLegalTree, Tree, Trees, tree_bytes}
+use Rattle.c2_spec.specs.Located as located
+use Rattle.c2_spec.specs.Located.{Located, Opening}
+use Rattle.c2_spec.specs.declared.digest.Alg.{Alg}
+use Rattle.c2_rules.specs.Opened.{IsBoxTree, IsManifestStore, IsManifestTree, IsOpened, Opens}
+use Rattle.c2_rules.specs.Readings.{AreReadings}
+use Rattle.c2_definition.specs.declared.types.NewAssertion.{NewAssertion}
+use Rattle.c2_new_file_spec.specs.Built.{HasDigestLen, StoreSizeIsFixed}
+use Rattle.c2_new_file_spec.specs.Fresh.{IsFresh, MeetsTheRules}
+use Rattle.c2_new_file_spec.specs.Manifests.{manifest_of, supers_in}
+use Rattle.c2_new_file_spec.specs.Store.{Content, NewIngredient, new_alg, new_manifest, new_store}
+use Rattle.c2_new_file_spec.specs.Unbound.{IsKnownBinding, MeetsUnbound}
+use Rattle.c2_new_file_spec.specs.Written.{AreIngredients, CanBeCarried, CanBeWritten}
+use Rattle.c2_new_file_spec.proofs.BuiltLemmas.{packet_store}
+use Rattle.c2_new_file_spec.proofs.Conditions.{all_hold}
+use Rattle.c2_new_file_spec.proofs.Ingredients.{no_ingredients}
+use Rattle.c2_new_file_spec.specs.Carrying.{CanStandOver, IsCarried, RedactionsPass, ValidStoreIsCarried}
+use Rattle.c2_new_content_spec.specs.Over.{SucceedingStoreMeets}
+use Rattle.c2_new_file_spec.specs.Films.{BmffSizeIsFixed}
+use Rattle.c2_new_file_spec.proofs.Building.{boxed_store}
+use Rattle.c2_new_content_spec.specs.Gathered.{GatheredStoreMeets}
+use Rattle.c2_new_content_spec.specs.Taken.{IsRoot, IsTakenFrom}
+use Rattle.c2_new_content_spec.specs.Contents.{CanPutAt, ContentFileMeets, ContentSizeIsFixed, FreshContentMeets, GatheredContentMeets, OverContentMeets, content_binding, content_len, content_question, content_size, content_store}
+use Rattle.c2_new_content_spec.specs.Meeting.{SplitFileMeets}
+use Rattle.c2_new_content_spec.specs.Splits.{CanHold, HasRoomFor, IsSplitStore, Split, binding_at, of_boxes, of_segments, split_binding, split_file, split_len, split_start, split_text}
+
+-- ---- the store at a split
+
+-- the store at a split has one length
+pub size_fixed : StoreSizeIsFixed → BmffSizeIsFixed → ContentSizeIsFixed
+size_fixed file film hash c (of_segments front back number) len digest message sized long =
+    file hash c (place_after front) len digest message sized long
+size_fixed file film hash c (of_boxes front back) len digest message sized long = film hash c digest message sized long
+
+-- the binding at a split is of a kind that is known
+known_at : (alg : Alg) (s : Split) (len : ℕ) (digest : List ℕ) → IsKnownBinding (split_binding alg s len digest)
+known_at alg (of_segments front back number) len digest = record { label = inl refl; item = refl }
+known_at alg (of_boxes front back) len digest = record { label = inr refl; item = refl }
+
+-- a new store that isn't too large can be put in
+pub stored_at : (hash : List ℕ → List ℕ) (c : Content) (binding : NewAssertion) (message : List ℕ) (s : Split)
+    → length (tree_bytes (new_store hash c binding message)) ≤ MAX_STORE_LEN
+    → IsSplitStore s (tree_bytes (new_store hash c binding message))
+stored_at hash c binding message (of_segments front back number) small =
+    packet_store c.carried (new_manifest hash c binding message) small
+stored_at hash c binding message (of_boxes front back) small =
+    boxed_store c.carried (new_manifest hash c binding message) small
+
+-- the size of a new store at a split
+pub store_size : ContentSizeIsFixed → (hash : List ℕ → List ℕ) (c : Content) (message base : List ℕ) (s : Split)
+    → HasDigestLen (new_alg c.definition) hash
+    → length (tree_bytes (content_store hash c message base s)) ≡ content_size s c (length message)
+store_size sizes hash c message base s sized =
+    let len : ℕ = content_len s c (length message) in
+    sizes hash c s len (hash (split_text base s len)) message sized (sized (split_text base s len))
+
+-- where there is room for the content, the file can hold the store
+pub can_hold : ContentSizeIsFixed → (hash : List ℕ → List ℕ) (c : Content) (message base : List ℕ) (s : Split)
+    → HasDigestLen (new_alg c.definition) hash
+    → CanPutAt c (length message) base s → CanHold base s (tree_bytes (content_store hash c message base s))
+can_hold sizes hash c message base s sized can =
+    let size = store_size sizes hash c message base s sized in
+    record {
+      room = subst (HasRoomFor base s) (sym size) can.room;
+      free = can.free;
+      stored =
+          stored_at hash c (content_binding hash c (length message) base s) message s
+          (omega (arith, size, can.room.small));
+    }
+
+-- ---- the file
+
+-- the content's law and the split's give the file's
+pub content_meets : SplitFileMeets → ContentSizeIsFixed → ContentFileMeets
+content_meets files sizes hash c message base piece s parts older digests content can put =
+    let alg : Alg = new_alg c.definition in
+    let h : List ℕ → List ℕ = hash alg in
+    let sized : HasDigestLen alg h = λ text. (digests alg text).sized in
+    let len : ℕ = content_len s c (length message) in
+    let t : Tree = content_store h c message base s in
+    let qs : List Question = content_question h c (length message) base s parts ∷ older in
+    let size : length (tree_bytes t) ≡ content_size s c (length message) = store_size sizes h c message base s sized in
+    let known : IsKnownBinding (content_binding h c (length message) base s) =
+    known_at alg s len (h (split_text base s len)) in
+    let unbound : MeetsUnbound hash t (binding_at h alg base s len) qs =
+    content (content_binding h c (length message) base s) known (omega (arith, size, can.room.small)) in
+    let same : split_len s (length (tree_bytes t)) ≡ len = ap (split_len s) size in
+    subst (λ n. MeetsTheRules hash (split_file base s piece) (split_start s) n t qs) same
+    (files hash alg t base piece s qs digests (can_hold sizes h c message base s sized can) put
+    (subst (λ n. MeetsUnbound hash t (binding_at h alg base s n) qs) (sym same) unbound))
+
+-- ---- the contents
+
+-- the store that a file is opened as
+record IsOld (old : Tree) : Type 0 where
+  legal : IsLegalTree 1 old
+  accepted : store_refusal old ≡ None
+
+-- two stores that are found are one tree
+here_tree : (a n b m : ℕ) (t u : Tree) → ◌≡◌ {A = Opening Tree} (located.here a n t) (located.here b m u) → t ≡ u
+here_tree a n b m t u e = cc (e)
+
+-- the box tree that a media file is opened with is legal and a store
+old_is : (media : List ℕ) (start len : ℕ) (old : Tree) → IsOpened media (located.here start len old) → IsOld old
+old_is media start len old h = by_place h.0 h.2
+  where
+    by_tree : (at n : ℕ) (store : List ℕ) (what : Opening Tree) → IsBoxTree at n store what
+        → Opens IsManifestTree what (located.here start len old) → IsOld old
+    by_tree at n store (located.refused reason number) g e = absurd (cc (e))
+    by_tree at n store located.absent g e = absurd g
+    by_tree at n store (located.here b m t) g e =
+        let same : old ≡ t = here_tree start len b m old t e.1 in
+        record { legal = subst (IsLegalTree 1) (sym same) g.0.legal; accepted = ap store_refusal same ∙ e.0 }
+
+    by_place : (l : Located) → Opens IsManifestStore l (located.here start len old) → IsOld old
+    by_place (located.refused reason number) e = absurd (cc (e))
+    by_place located.absent e = absurd (cc (e))
+    by_place (located.here at n store) e = by_tree at n store e.0 e.1 e.2
+
+-- over a valid media file with a store
+pub over_content : ValidStoreIsCarried → SucceedingStoreMeets → OverContentMeets
+over_content carries succeeding hash said media start len old r d c message parts can w is spells =
+    let o : IsOld old = old_is media start len old can.opened in
+    let over : CanStandOver hash said d old r = record {
+      legal = o.legal;
+      store = o.accepted;
+      reads = can.reads.reads.each;
+      valid = can.valid;
+      label = can.label;
+      redactions = can.redactions;
+    } in
+    let carried : IsCarried hash c r.readings = carries hash said d old r c over can.few is in
+    λ binding known small.
+    succeeding hash c is.parent binding message parts r.readings carried.readings is.ingredients
+    (subst CanBeWritten (sym is.definition) w) known small spells carried.over (carried.last is.parent is.is_parent)
+
+-- with ingredients
+pub gathered_content : GatheredStoreMeets → GatheredContentMeets
+gathered_content stores hash c message parts roots rs ss over = λ binding known small.
+    stores hash c binding message parts roots rs ss (record {
+      written = over.written;
+      ingredients = over.ingredients;
+      known = known;
+      fits = small;
+      spells = over.spells;
+      taken = over.taken;
+      named = over.named;
+    })
+
+-- a store of a definition alone takes over no boxes, from no roots
+takes_none : (hash : Alg → List ℕ → List ℕ) (c : Content) → IsFresh c → IsTakenFrom hash c.definition c.carried [] [] []
+takes_none hash c is = record {
+  can_be = subst (CanBeCarried c.definition.label) (sym is.carried)
+      (record { legal = tt; distinct = tt; new = tt; manifests = tt; few = lit< tt });
+  reads = subst (λ (boxes : Trees). AreReadings (map manifest_of (supers_in boxes)) []) (sym is.carried) tt;
+  less = tt;
+  rooted =
+      record
+      { differ = λ i j r s e. absurd (cc (e)); kinds = λ i r e. absurd (cc (e)); within = tt; holds = λ i r e. absurd (cc (e)) };
+  can = record {
+    kinds = λ i r e. absurd (cc (e));
+    reached = λ i r label e. absurd (cc (e));
+    listed = λ i r label e. absurd (cc (e));
+    signed = λ i r e. absurd (cc (e));
+  };
+  redactions = subst (RedactionsPass c.definition.label) (sym is.redact) (all_hold [] tt);
+}
+
+-- a store of a definition alone has no ingredients and no further questions
+pub fresh_content : GatheredStoreMeets → FreshContentMeets
+fresh_content stores hash c message parts is w spells = gathered_content stores hash c message parts [] [] [] (record {
+  written = w;
+  ingredients = subst AreIngredients (sym is.ingredients) no_ingredients;
+  spells = spells;
+  taken = takes_none hash c is;
+  named =
+      subst (λ (gs : List NewIngredient). AllZip (λ (g : NewIngredient) root. IsRoot [] [] g.of root) gs [])
+      (sym is.ingredients) tt;
+})

@@ -1,0 +1,1 @@
+-- The box of a store, and a box that is freed. These lemmas stand in `c2_bmff_insert_spec` too, which keeps them to itself.

@@ -1,0 +1,1 @@
+-- What holds of each member of a list, and of those of its parts.

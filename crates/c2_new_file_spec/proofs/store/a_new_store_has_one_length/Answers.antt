@@ -1,0 +1,5 @@
+use Rattle.c2_new_file_spec.proofs.StoreLaws.{a_new_store_has_one_length}
+use Rattle.c2_new_file_spec.proofs.store.a_new_store_has_one_length.Goals as goal
+
+pub returns : goal.returns
+returns c = a_new_store_has_one_length
