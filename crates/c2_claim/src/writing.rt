@@ -13,6 +13,7 @@ ghost use Rattle.c2_claim.specs.declared.writing.ClaimParts.{ClaimParts as AnyPa
 use c2_base::{Blob, NoMemory, Text, Texts};
 use c2_cbor_write::encode;
 use c2_spec::{Cbor, EncodeError, Ref, Refs};
+use c2_uri::{Target, Uri, text};
 use std::alloc::Global;
 
 /// What a claim is written of.
@@ -143,10 +144,11 @@ fn list_written(alloc: Global, references: &[Ref]) -> Result<Cbor, NoMemory>
 fn signature_written(alloc: Global, label: &str) -> Result<Cbor, NoMemory>
     ensures { IfOk result (λ v. view v ≡ item.text (form.signature_uri label.now)) }
 {
-    let mut uri = String::from_str(alloc, "self#jumbf=/c2pa/")?;
-    uri.push_str(label)?;
-    uri.push_str("/c2pa.signature")?;
-    Ok(Cbor::Text(Text::from_string(alloc, uri)?))
+    let uri = Uri {
+        manifest: Some(label),
+        target: Target::Signature,
+    };
+    Ok(Cbor::Text(text(alloc, &uri)?))
 }
 
 // The item of the program's name.

@@ -10,18 +10,20 @@ use c2_assertion::write_ingredient;
 use c2_base::{Blob, NoMemory, Text};
 use c2_definition::{NewAssertion, Payload};
 use c2_spec::{Ingredient, Ref, Relationship};
+use c2_uri::{Target, Uri, text};
 use std::alloc::Global;
 
 // A reference to the manifest with this label, by the digest of its contents.
 fn manifest_ref(alloc: Global, label: &str, digest: &[u8]) -> Result<Ref, NoMemory>
     ensures { IfOk result (λ r. r ≡ target_ref told label.now whole digest.now) }
 {
-    let mut url = String::from_str(alloc, "self#jumbf=/c2pa/")?;
-    url.push_str(label)?;
-    let hash = Blob::copied(alloc, digest)?;
+    let uri = Uri {
+        manifest: Some(label),
+        target: Target::Whole,
+    };
     Ok(Ref {
-        url: Text::from_string(alloc, url)?,
-        hash,
+        url: text(alloc, &uri)?,
+        hash: Blob::copied(alloc, digest)?,
         alg: None,
     })
 }
@@ -30,13 +32,13 @@ fn manifest_ref(alloc: Global, label: &str, digest: &[u8]) -> Result<Ref, NoMemo
 fn signature_ref(alloc: Global, label: &str, digest: &[u8]) -> Result<Ref, NoMemory>
     ensures { IfOk result (λ r. r ≡ target_ref told label.now signature digest.now) }
 {
-    let mut url = String::from_str(alloc, "self#jumbf=/c2pa/")?;
-    url.push_str(label)?;
-    url.push_str("/c2pa.signature")?;
-    let hash = Blob::copied(alloc, digest)?;
+    let uri = Uri {
+        manifest: Some(label),
+        target: Target::Signature,
+    };
     Ok(Ref {
-        url: Text::from_string(alloc, url)?,
-        hash,
+        url: text(alloc, &uri)?,
+        hash: Blob::copied(alloc, digest)?,
         alg: None,
     })
 }

@@ -56,14 +56,14 @@ fn spell(alloc: Global, uri: &Uri<'_>) -> Result<Text, NoMemory>
     Text::from_string(alloc, text)
 }
 
-/// The text of a URI, which `parse` reads as this URI again.
+/// The text of a URI.
 ///
-/// The URI isn't relative and whole, its labels aren't empty and have no `/`, and a path that it names is neither a
-/// signature's nor an assertion's. The error is out of memory.
+/// `parse` reads it as this URI again where that isn't relative and whole, its labels aren't empty and have no `/`, and a path that it
+/// names is neither a signature's nor an assertion's. The error is out of memory.
 pub fn text(alloc: Global, uri: &Uri<'_>) -> Result<Text, NoMemory>
-    requires { IsWritable (uri_view uri.now) }
     ensures spelled { IfOk result (λ t. t ≡ uri_text (uri_view uri.now)) }
-    ensures read_back { IfOk result (λ t. uri_of t ≡ Some (uri_view uri.now)) }
+    ensures read_back { IsWritable (uri_view uri.now)
+        → IfOk result (λ t. uri_of t ≡ Some (uri_view uri.now)) }
 {
     spell(alloc, uri)
 }
