@@ -19,14 +19,15 @@ OPEN = {
     "c2_bmff_chunks", "c2_compare_spec", "c2_new_content_spec", "c2_new_file_spec", "c2_new_front_spec", "c2_new_lengths_spec",
     "c2_collect_spec", "c2_cmd_written_spec",
 }
-# What a crate of code owes to those above it beside its `TheLaws`: what calls leave of a sink; what one append after another comes to; what a
+# What a crate of code owes to those above it beside its `TheLaws`: what calls leave of a sink; what one append after another comes to, and takes of a stated spare; how long the packets of a store are; what a
 # walk over the segments of a JPEG knows; what rows that fill a part of a source say; the manifests of a store by their places, and what is
 # carried of it; what the errors, stages and inputs of a build say; what is left of its sources; what was found of a file and of its store's
 # check; how long a new store is; what the numbers of a new file and the errors of its writing say, and what that leaves; that a built file is
 # restored; and what is replied.
 LAWS = {
     "c2_base": {"Growing", "Written"},
-    "c2_copying": {"Appending"},
+    "c2_copying": {"Appending", "Spares"},
+    "c2_jpegseg": {"WrittenRuns"},
     "c2_jpegseg_segments": {"Fronts", "Kept", "NumberMarks", "Outside", "SegmentLists", "Starts", "Steps", "WindowLemmas"},
     "c2_bmff_boxes": {"Filling"},
     "c2_parent": {"CarriedLemmas", "Walking"},

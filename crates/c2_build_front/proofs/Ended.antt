@@ -1,6 +1,6 @@
 -- What is answered, and what is written, once a new file is ready or isn't.
 use Rattle.c2_opening.proofs.TheLaws.{one_opening_file}
-use Rattle.std.proofs.Common.{◌≡◌, ℕ, Bool, List, Option, refl, sym, ap, ◌∙◌, subst}
+use Rattle.std.proofs.Common.{◌≡◌, ℕ, ◌+◌, ◌≤◌, Bool, List, length, Option, refl, sym, ap, ◌∙◌, subst, arith}
 use Rattle.std.specs.Prelude.{Result, Ok, Err}
 use Rattle.std.specs.declared.option.Option.TheVariants.{Some}
 use Rattle.c2_spec.specs.Jumbf.Tree.{Tree}
@@ -10,7 +10,11 @@ use Rattle.c2_rules.specs.Opened.{IsOpened}
 use Rattle.c2_copying.specs.Writing.{Breaks, WritesFile, ending_of}
 use Rattle.c2_copying.specs.declared.copying.CopyError.{CopyError}
 use Rattle.c2_copying.specs.declared.copying.CopyError.TheVariants as copying
-use Rattle.c2_build_writing.specs.Puts.{copy_fault_of}
+use Rattle.c2_build_refusals.specs.declared.types.Put.TheVariants as put
+use Rattle.c2_build_writing.specs.Puts.{copy_fault_of, most_put}
+use Rattle.c2_build_writing.proofs.TheLaws.{put_most}
+use Rattle.c2_spec.specs.Bmff.Boxes.{box_bytes}
+use Rattle.c2_spec.specs.Bmff.Writing.{c2pa_box}
 use Rattle.c2_new_front_spec.specs.Order.{FrontRefusal}
 use Rattle.c2_new_front_spec.specs.Outcomes.{IsFrontMade, IsMadeOver, IsOpenedOnce, NewFile}
 use Rattle.c2_new_front_spec.specs.Outcomes as front
@@ -22,7 +26,7 @@ use Rattle.c2_build_refusals.specs.declared.types.Embedded.{Embedded}
 use Rattle.c2_bmff_binding_front.specs.Putting.{range_of, with_store}
 use Rattle.c2_build_in_place.proofs.Endings.{begun}
 use Rattle.c2_build_front.specs.Answers.{EmbedsFront, HasRange, Writes, file_of}
-use Rattle.c2_build_front.specs.Steps.{IsReady}
+use Rattle.c2_build_front.specs.Steps.{CanWrite, IsReady, front_file_len}
 use Rattle.c2_build_front.specs.declared.ready.Ready.{Ready}
 
 -- ---- the file is written
@@ -90,3 +94,11 @@ told_of_file hash media definition message b known made told =
     let one = passed (front.IsMediaStage media) (IsMadeOver hash media definition message) b made in
     let k = kind_stage media one.value one.first in
     told_where_due told (λ refused. not_both_media media k.0 k.1 refused)
+
+-- ---- how long the new file is
+
+-- what is ready over media of this length isn't longer than that and the longest that is put in
+pub front_most : (len : ℕ) (r : Ready) → CanWrite len r → front_file_len r.front r.store ≤ len + most_put
+front_most len r h =
+    let most : length (box_bytes (c2pa_box r.store)) ≤ most_put = put_most put.Box r.store h.store in
+    omega (arith, h.fits.size, most)

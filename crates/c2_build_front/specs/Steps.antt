@@ -5,8 +5,8 @@ use Rattle.std.specs.declared.result.Result.{Result}
 use Rattle.std.specs.declared.result.Result.TheVariants.{Ok, Err}
 use Rattle.std.specs.Option.{ForSome}
 use Rattle.c2_base.specs.declared.limits.TheConstants.{FILE_LEN_LIMIT, MAX_STORE_LEN}
-use Rattle.c2_spec.specs.Bmff.Boxes.{Box, HasRoots}
-use Rattle.c2_spec.specs.Bmff.Writing.{c2pa_frame_len}
+use Rattle.c2_spec.specs.Bmff.Boxes.{Box, HasRoots, box_bytes}
+use Rattle.c2_spec.specs.Bmff.Writing.{c2pa_box, c2pa_frame_len}
 use Rattle.c2_spec.specs.Digest.{digest_len}
 use Rattle.c2_spec.specs.Jpeg.Writing.{IsPacketStore}
 use Rattle.c2_spec.specs.Jumbf.Tree.{Tree}
@@ -129,6 +129,10 @@ pub record CanWriteFront (len : ℕ) (f : Front) (bytes : List ℕ) (size : ℕ)
   pub fits : FitsIn len f
   pub store : IsPacketStore bytes
   pub room : 0 < size
+
+-- how long the new file is then, whatever the media's bytes are
+abbrev pub front_file_len : Front → List ℕ → ℕ
+front_file_len f store = length (box_bytes (c2pa_box store)) + f.size
 
 -- what is ready can be written over such a file
 abbrev pub CanWrite : ℕ → Ready → Type 0

@@ -3,6 +3,7 @@ ghost use Rattle.std.specs.Prelude.{ℕ, List};
 ghost use Rattle.std.specs.Option.{ForSome};
 ghost use Rattle.c2_build_endings.specs.Endings.{WritesOut};
 ghost use Rattle.c2_build_endings.specs.Sources.{ReadsSigned, use_of};
+ghost use Rattle.c2_build_in_place.specs.Writings.{FitsOut};
 ghost use Rattle.c2_build_refusals.specs.Stages.{IsDefinitionTold, IsMessageTold, LeavesUndue};
 ghost use Rattle.c2_build_front.specs.Answers.{EmbedsFront, IsEmbedCause};
 
@@ -23,7 +24,8 @@ use std::alloc::Global;
 /// is refused as `plan_front` refuses it, and at last `ReserveTooSmall` comes where the message doesn't fit into the bytes that are reserved
 /// for it. Over known bytes the error is the first of these whose condition holds. `ReadFault` and `WriteFault` come only where a source or the
 /// sink counted a fault in this call, and leave a prefix of the new file that isn't finished; every other error leaves the sink as it was, since all
-/// memory is taken before anything is written. `NoMemory` comes where memory ran out; no other error comes.
+/// memory is taken before anything is written. `WriteFault` never comes within a stated spare that holds the new file, nor, whatever is known of the
+/// sources, within one that holds the media and 33,564,924 bytes. `NoMemory` comes where memory ran out; no other error comes.
 ///
 /// The definition isn't read where the media is refused, and the message isn't where the media or the definition is. The media is opened
 /// once, and read in pieces.
@@ -50,6 +52,7 @@ pub fn embed_front<A: Source, B: Source, C: Source, K: Sink, H: Hashing>(
         (use_of B.len B.known B.faults definition.old definition.new)
         (use_of C.len C.known C.faults signature.old signature.new) result }
     ensures sink { WritesOut K.written K.faults K.finished out.old out.new result }
+    ensures spare { FitsOut (K.spare out.old) (A.len media.old) result }
 {
     each_definition_is_read_one_way();
     let mut ready = match prepare(alloc, hashing, media, definition, signature) {

@@ -5,7 +5,7 @@ ghost use Rattle.c2_base.specs.Source.{ReadsSource};
 ghost use Rattle.c2_copying.specs.Writing.{IsCopyReadCause, IsCopyWriteCause};
 ghost use Rattle.c2_bmff_binding_front.specs.Putting.{with_store};
 ghost use Rattle.c2_build_writing.specs.Puts.{WritesOver};
-ghost use Rattle.c2_build_front.specs.Steps.{CanWriteFront};
+ghost use Rattle.c2_build_front.specs.Steps.{CanWriteFront, front_file_len};
 
 use c2_base::{Sink, Source};
 use c2_bmff_binding_front::{FRAME_LEN, Front};
@@ -30,7 +30,7 @@ fn write_named<'m, A: Source, N: NamedTables, K: Sink>(
     requires can { CanWriteFront (A.len media.old) front.now store.now (length buf.old) }
     ensures same { result.ghost_name ≡ media.entry.ghost_name }
     ensures written { WritesOver K.written K.spare K.finished (with_store front.now store.now)
-        (A.known media.old) out.old out.new done.new }
+        (front_file_len front.now store.now) (A.known media.old) out.old out.new done.new }
     ensures reads { ReadsSource A.len A.known A.faults IsCopyReadCause
         media.old result.now done.new }
     ensures writes { WritesSink K.written unsaid K.faults IsCopyWriteCause
@@ -59,7 +59,7 @@ pub(crate) fn write_front<A: Source, K: Sink>(
 ) -> Result<(), CopyError>
     requires can { CanWriteFront (A.len media.old) front.now store.now (length buf.old) }
     ensures written { WritesOver K.written K.spare K.finished (with_store front.now store.now)
-        (A.known media.old) out.old out.new result }
+        (front_file_len front.now store.now) (A.known media.old) out.old out.new result }
     ensures reads { ReadsSource A.len A.known A.faults IsCopyReadCause media.old media.new result }
     ensures writes { WritesSink K.written unsaid K.faults IsCopyWriteCause out.old out.new result }
 {

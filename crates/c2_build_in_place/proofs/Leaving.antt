@@ -1,19 +1,27 @@
 -- What a call that writes a new file leaves of its sources and of its sink, by what is left of them before it writes, and by the copy.
-use Rattle.std.proofs.Common.{◌≡◌, inl, ℕ, Bool, true, List, Option, refl, subst}
+use Rattle.std.proofs.Common.{◌≡◌, inl, ℕ, ◌+◌, ◌≤◌, Bool, true, List, Option, refl, sym, subst, arith}
 use Rattle.std.specs.Prelude.{⊤, Ok, Err}
 use Rattle.c2_base.specs.Causes.{Rose}
 use Rattle.c2_base.specs.Sink.{WritesSink, unsaid}
 use Rattle.c2_base.specs.Source.{ReadsSource}
 use Rattle.c2_calls_spec.proofs.SinkLemmas.{writes_nothing}
 use Rattle.c2_calls_spec.proofs.SourceLemmas.{reads_next, reads_then}
-use Rattle.c2_copying.specs.Writing.{IsCopyReadCause as CopyReadCause, IsCopyWriteCause as CopyWriteCause}
+use Rattle.c2_copying.specs.Writing.{IsCopyReadCause as CopyReadCause, IsCopyWriteCause as CopyWriteCause, IsOverSpare, ending_of}
 use Rattle.c2_copying.specs.declared.copying.CopyError.{CopyError}
-use Rattle.c2_build_refusals.specs.Kinds.{Effects, IsSourceCause, MayCome, kind_of}
+use Rattle.c2_copying.specs.declared.copying.CopyError.TheVariants as copying
+use Rattle.c2_build_refusals.specs.Kinds.{Effects, ErrorKind, IsSourceCause, MayCome, kind_of}
+use Rattle.c2_build_refusals.specs.Kinds as kind
 use Rattle.c2_build_refusals.specs.declared.error.BuildError.{BuildError}
 use Rattle.c2_build_refusals.proofs.Doing.{DoesNoMore, leaves_kind, more_cause, unwritten_sink}
-use Rattle.c2_build_endings.specs.Endings.{WritesOut}
+use Rattle.c2_build_endings.specs.Endings.{WritesOut, kind_ending}
 use Rattle.c2_build_endings.specs.Sources.{FaultsRose, IsRead, ReadsSigned, SourceUse, use_of}
-use Rattle.c2_build_writing.specs.Puts.{copy_fault_of}
+use Rattle.c2_build_writing.specs.Puts.{copy_fault_of, most_put, put_file_len}
+use Rattle.c2_build_writing.proofs.TheLaws.{put_most}
+use Rattle.c2_without_store.specs.Clears.{cleared_len}
+use Rattle.c2_without_store.specs.declared.clearing.Clearing.{Clearing}
+use Rattle.c2_without_store.specs.declared.clearing.Clearing.TheVariants.{Cut, Freed}
+use Rattle.c2_build_in_place.specs.Writings.{CanWrite}
+use Rattle.c2_build_in_place.specs.declared.writing.Ready.{Ready}
 use Rattle.c2_build_in_place.proofs.Endings.{copy_beside, copy_leaves, copy_sink, copy_source}
 
 -- ---- one source
@@ -117,6 +125,19 @@ sink_unwritten {K} {T} {written} {faults} {finished} does none Other m n k e cau
   ends = record { finish = refl; untouched = leaves_kind (kind_of e) refl };
 }
 
+-- nor is a spare too small then
+pub room_unwritten : (does : Effects) → (MayCome does.writes_file ⊤ → ⊥) → (Other : Type 0) (m n : ℕ) (k : ErrorKind)
+    → IsSourceCause does Other m n k → (spare : Option ℕ) (count : ℕ) → IsOverSpare (kind_ending k) spare count
+room_unwritten does none Other m n kind.refusal h spare count = tt
+room_unwritten does none Other m n kind.message_refusal h spare count = tt
+room_unwritten does none Other m n kind.front_refusal h spare count = tt
+room_unwritten does none Other m n kind.older_refusal h spare count = tt
+room_unwritten does none Other m n kind.other_refusal h spare count = tt
+room_unwritten does none Other m n kind.read_fault h spare count = tt
+room_unwritten does none Other m n kind.judge_fault h spare count = tt
+room_unwritten does none Other m n kind.write_fault h spare count = absurd (none h)
+room_unwritten does none Other m n kind.no_memory h spare count = tt
+
 -- the new file was written
 pub sink_copied : {K U V : Type 0} {written : K → Option (List ℕ)} {faults : K → ℕ} {finished : K → Bool} {old new : K}
     (u : U) (v : V) → WritesSink written unsaid faults CopyWriteCause old new (Ok v) → finished new ≡ true
@@ -135,3 +156,22 @@ sink_broken {K} {U} {V} {written} {faults} {finished} {old} {new} e f is h same 
   writes = record { stays = h.stays; quiet = tt; cause = copy_sink (faults old) (faults new) e f is h.cause };
   ends = record { finish = same; untouched = copy_leaves (new ≡ old) e f is };
 }
+
+-- its copy failed, so a spare is less than the file, which isn't longer than so many bytes
+pub room_broken : (e : CopyError) (f : BuildError) → f ≡ copy_fault_of e → (spare : Option ℕ) (len most : ℕ)
+    → IsOverSpare (ending_of e) spare len → len ≤ most → IsOverSpare (kind_ending (kind_of f)) spare most
+room_broken e f is spare len most over le =
+    subst (λ (x : BuildError). IsOverSpare (kind_ending (kind_of x)) spare most) (sym is) (by e over)
+  where
+    by : (c : CopyError) → IsOverSpare (ending_of c) spare len → IsOverSpare (kind_ending (kind_of (copy_fault_of c))) spare most
+    by copying.ReadFault h = tt
+    by copying.WriteFault h = λ s states. omega (arith, h s states, le)
+
+-- what is ready over media of this length isn't longer than that and the longest that is put in
+pub ready_most : (len : ℕ) (r : Ready) → CanWrite len r → put_file_len r.draft r.store ≤ len + most_put
+ready_most len r h =
+    omega (arith, h.can.size, cleared_most r.clearing len, put_most r.draft.put r.store h.can.store)
+  where
+    cleared_most : (c : Clearing) (n : ℕ) → cleared_len c n ≤ n
+    cleared_most (Cut range) n = omega arith
+    cleared_most (Freed row) n = omega arith

@@ -3,7 +3,7 @@ ghost use Rattle.std.specs.Prelude.{◌≡◌};
 ghost use Rattle.c2_base.specs.Sink.{WritesSink, unsaid};
 ghost use Rattle.c2_base.specs.Source.{ReadsSource};
 ghost use Rattle.c2_copying.specs.Writing.{IsCopyReadCause, IsCopyWriteCause};
-ghost use Rattle.c2_build_writing.specs.Puts.{WritesOver};
+ghost use Rattle.c2_build_writing.specs.Puts.{WritesOver, put_file_len};
 ghost use Rattle.c2_build_in_place.specs.Writings.{CanWrite, ready_file};
 
 use c2_base::{Blob, Sink, Source};
@@ -43,7 +43,7 @@ fn write_left<'m, A: Source, L: Named, K: Sink>(
     requires can { CanWrite (A.len media.old) ready }
     ensures same { result.ghost_name ≡ media.entry.ghost_name }
     ensures written { WritesOver K.written K.spare K.finished (ready_file ready)
-        (A.known media.old) out.old out.new done.new }
+        (put_file_len ready.draft ready.store) (A.known media.old) out.old out.new done.new }
     ensures reads { ReadsSource A.len A.known A.faults IsCopyReadCause
         media.old result.now done.new }
     ensures writes { WritesSink K.written unsaid K.faults IsCopyWriteCause
@@ -61,7 +61,8 @@ fn write_left<'m, A: Source, L: Named, K: Sink>(
 }
 
 /// Writes the new file over what is left of a media file, and says that nothing follows. `ReadFault` comes only where the media's count of
-/// faults rose in this call, and `WriteFault` where the sink's did; both leave a prefix of the file, and a sink that isn't finished by them.
+/// faults rose in this call, and `WriteFault` where the sink's did, and never within a stated spare that holds the file; both leave a prefix of
+/// the file, and a sink that isn't finished by them.
 pub fn write_file<A: Source, K: Sink>(
     media: &mut A,
     ready: Ready,
@@ -69,7 +70,7 @@ pub fn write_file<A: Source, K: Sink>(
 ) -> Result<(), CopyError>
     requires { CanWrite (A.len media.old) ready }
     ensures written { WritesOver K.written K.spare K.finished (ready_file ready)
-        (A.known media.old) out.old out.new result }
+        (put_file_len ready.draft ready.store) (A.known media.old) out.old out.new result }
     ensures reads { ReadsSource A.len A.known A.faults IsCopyReadCause media.old media.new result }
     ensures writes { WritesSink K.written unsaid K.faults IsCopyWriteCause out.old out.new result }
 {

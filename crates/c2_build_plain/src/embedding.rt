@@ -3,6 +3,7 @@ ghost use Rattle.std.specs.Prelude.{map, ℕ, List};
 ghost use Rattle.std.specs.Option.{ForSome};
 ghost use Rattle.c2_build_endings.specs.Endings.{WritesOut};
 ghost use Rattle.c2_build_endings.specs.Sources.{ReadsSigned, use_of};
+ghost use Rattle.c2_build_in_place.specs.Writings.{FitsOut};
 ghost use Rattle.c2_spec.specs.Judges.Panel.{panel_says};
 ghost use Rattle.c2_rules.specs.Asking.{HearsPanel};
 ghost use Rattle.c2_build_refusals.specs.Kinds.{build_heard};
@@ -25,7 +26,8 @@ use std::alloc::Global;
 /// these is refused as `plan` refuses it, and at last `ReserveTooSmall` comes where the message doesn't fit into the bytes that are
 /// reserved for it. Over known bytes the error is the first of these whose condition holds. `ReadFault` and `WriteFault` come only where
 /// a source or the sink failed in this call, and leave a prefix of the new file that isn't finished; every other error leaves the sink as
-/// it was, since all memory is taken before anything is written. `JudgeFault` comes only where a judge failed in this call, and `NoMemory`
+/// it was, since all memory is taken before anything is written. `WriteFault` never comes within a stated spare that holds the new file, nor,
+/// whatever is known of the sources, within one that holds the media and 33,564,924 bytes, the packets of the longest store. `JudgeFault` comes only where a judge failed in this call, and `NoMemory`
 /// where memory ran out.
 ///
 /// The judges are asked what the check of the media's store asks, where it has one and neither the definition nor the message is
@@ -58,6 +60,7 @@ pub fn embed<A: Source, B: Source, C: Source, K: Sink, H: Hashing>(
         (use_of B.len B.known B.faults definition.old definition.new)
         (use_of C.len C.known C.faults signature.old signature.new) result }
     ensures sink { WritesOut K.written K.faults K.finished out.old out.new result }
+    ensures spare { FitsOut (K.spare out.old) (A.len media.old) result }
     ensures panel { HearsPanel says asked_times judge_faults build_heard (AsksEmbedded
         H.digest_of (A.known media.old) (B.known definition.old) (C.known signature.old))
         judges.old judges.new result }

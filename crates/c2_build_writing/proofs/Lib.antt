@@ -1,1 +1,2 @@
+pub mod TheLaws
 mod Written

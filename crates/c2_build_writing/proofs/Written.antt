@@ -1,5 +1,5 @@
 -- What is written, step by step.
-use Rattle.std.proofs.Common.{◌≡◌, ℕ, ◌+◌, ◌-◌, ◌<◌, ◌≤◌, Bool, List, ◌++◌, length, take, drop, Option, Result, Ok, Err, IfErr, OnOk, refl, ap, ◌∙◌, subst, arith}
+use Rattle.std.proofs.Common.{◌≡◌, ℕ, ◌-◌, ◌<◌, ◌≤◌, Bool, List, ◌++◌, length, take, drop, Option, Result, Ok, Err, IfErr, OnOk, refl, ap, ◌∙◌, subst, arith}
 use Rattle.std.proofs.lemmas.List.{take_all, length-drop}
 use Rattle.c2_base.specs.Sink.{StaysSink, TakesPrefix, WritesSink, unsaid}
 use Rattle.c2_spec.specs.PutIn.{put_in}

@@ -1,10 +1,11 @@
 -- What is put into a file of a new store, and what is written with it.
-use Rattle.std.specs.Prelude.{◌≡◌, ℕ, ◌≤◌, Bool, true, List}
+use Rattle.std.specs.Prelude.{◌≡◌, ℕ, ◌+◌, ◌≤◌, Bool, true, IfErr, List, length}
 use Rattle.std.specs.declared.option.Option.{Option}
 use Rattle.std.specs.declared.result.Result.{Result}
 use Rattle.std.specs.declared.result.Result.TheVariants.{Ok, Err}
 use Rattle.std.specs.Option.{ForSome}
-use Rattle.c2_copying.specs.Writing.{IsWhole}
+use Rattle.c2_base.specs.declared.limits.TheConstants.{MAX_STORE_LEN}
+use Rattle.c2_copying.specs.Writing.{IsOverSpare, IsWhole, ending_of}
 use Rattle.c2_copying.specs.declared.copying.CopyError.{CopyError}
 use Rattle.c2_copying.specs.declared.copying.CopyError.TheVariants as copying
 use Rattle.c2_spec.specs.Bmff.Boxes.{box_bytes}
@@ -27,6 +28,14 @@ put_of Put.Box store = box_bytes (c2pa_box store)
 abbrev pub put_file : Draft → List ℕ → List ℕ → List ℕ
 put_file f store base = put_in f.start (put_of f.put store) base
 
+-- how long it is then, whatever the base's bytes are
+abbrev pub put_file_len : Draft → List ℕ → ℕ
+put_file_len f store = length (put_of f.put store) + f.size
+
+-- the most bytes that are put in of a store: those of the packets of the longest store that may be
+abbrev pub most_put : ℕ
+most_put = jpeg.segments_len MAX_STORE_LEN
+
 -- A store can be put by these numbers into a base of this length, whatever is known of its bytes: it can go into packets or into a box, and the
 -- place lies in the base.
 pub record CanPut (len : ℕ) (bytes : List ℕ) (f : Draft) : Type 0 where
@@ -41,11 +50,13 @@ abbrev pub Finishes : {T : Type 0} → Bool → Bool → Result T CopyError → 
 Finishes before now (Ok x) = now ≡ true
 Finishes before now (Err e) = now ≡ before
 
--- What a call has done to its sink that appends a file over a base, and says that nothing follows: where the base's bytes are known, this file
--- was appended, or a prefix of it; and the sink is finished just where all was.
+-- What a call has done to its sink that appends a file of this length over a base, and says that nothing follows: where the base's bytes are
+-- known, this file was appended, or a prefix of it; whatever is known, a sink that failed states no spare that holds so many bytes; and the
+-- sink is finished just where all was appended.
 pub record WritesOver {K T : Type 0} (written : K → Option (List ℕ)) (spare : K → Option ℕ) (finished : K → Bool) (file_over : List ℕ → List ℕ)
-    (known : Option (List ℕ)) (old new : K) (result : Result T CopyError) : Type 0 where
+    (len : ℕ) (known : Option (List ℕ)) (old new : K) (result : Result T CopyError) : Type 0 where
   pub whole : ForSome known (λ base. IsWhole written spare finished (file_over base) old new result)
+  pub over : IfErr result (λ e. IsOverSpare (ending_of e) (spare old) len)
   pub finish : Finishes (finished old) (finished new) result
 
 -- the fault of a build that a fault of a copy is

@@ -3,12 +3,12 @@ ghost use Rattle.std.specs.Prelude.{◌≡◌, IfErr, ◌<◌, length};
 ghost use Rattle.std.specs.Option.{ForSome};
 ghost use Rattle.c2_base.specs.Sink.{WritesSink, unsaid};
 ghost use Rattle.c2_base.specs.Source.{ReadsSource};
-ghost use Rattle.c2_copying.specs.Writing.{IsCopyReadCause, IsStep, IsCopyWriteCause};
+ghost use Rattle.c2_copying.specs.Writing.{IsCopyReadCause, IsStep, IsCopyWriteCause, TakesSpare};
 ghost use Rattle.c2_copying.specs.declared.copying.CopyError.TheVariants as copying;
 ghost use Rattle.c2_spec.specs.Bmff.Boxes.{box_bytes};
 ghost use Rattle.c2_spec.specs.Bmff.Writing.{c2pa_box};
 ghost use Rattle.c2_spec.specs.Jpeg.Writing.{IsPacketStore, packets_bytes};
-ghost use Rattle.c2_build_writing.specs.Puts.{CanPut, WritesOver, copy_fault_of, put_file, put_of};
+ghost use Rattle.c2_build_writing.specs.Puts.{CanPut, WritesOver, copy_fault_of, put_file, put_file_len, put_of};
 
 use c2_base::{Failed, Sink, Source};
 use c2_bmff_boxes::write_box;
@@ -74,6 +74,8 @@ fn write_over<B: Source, K: Sink>(
     ensures step { ForSome (B.known base.old) (λ file. IsStep K.written K.spare K.finished
         (put_file draft store.now file)
         out.old out.new result) }
+    ensures spare { TakesSpare (K.spare out.old) (K.spare out.new)
+        (put_file_len draft store.now) result }
     ensures reads { ReadsSource B.len B.known B.faults IsCopyReadCause base.old base.new result }
     ensures writes { WritesSink K.written K.finished K.faults IsCopyWriteCause
         out.old out.new result }
@@ -94,8 +96,8 @@ fn write_over<B: Source, K: Sink>(
 /// Appends a base with what is put in of a store by these numbers, and says that nothing follows. The base is copied through a buffer that
 /// isn't empty.
 ///
-/// `ReadFault` comes only where the base's count of faults rose in this call, and `WriteFault` where the sink's did; both leave a prefix of the
-/// bytes, and a sink that isn't finished by them.
+/// `ReadFault` comes only where the base's count of faults rose in this call, and `WriteFault` where the sink's did, and never within a stated
+/// spare that holds all bytes; both leave a prefix of the bytes, and a sink that isn't finished by them.
 pub fn write_whole<B: Source, K: Sink>(
     base: &mut B,
     store: &[u8],
@@ -106,7 +108,7 @@ pub fn write_whole<B: Source, K: Sink>(
     requires can { CanPut (B.len base.old) store.now draft }
     requires room { 0 < length buffer.old }
     ensures written { WritesOver K.written K.spare K.finished (put_file draft store.now)
-        (B.known base.old) out.old out.new result }
+        (put_file_len draft store.now) (B.known base.old) out.old out.new result }
     ensures reads { ReadsSource B.len B.known B.faults IsCopyReadCause base.old base.new result }
     ensures writes { WritesSink K.written unsaid K.faults IsCopyWriteCause out.old out.new result }
 {

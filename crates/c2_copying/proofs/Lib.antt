@@ -1,3 +1,4 @@
 pub mod Appending
 mod Kept
+pub mod Spares
 mod Written

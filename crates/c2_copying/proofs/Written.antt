@@ -1,11 +1,12 @@
 -- What was written to a sink step by step, and the part of a file that was read of it.
-use Rattle.std.proofs.Common.{◌≡◌, ℕ, ◌+◌, ◌-◌, ◌<◌, ◌≤◌, Bool, List, [], ◌++◌, length, take, drop, Option, refl, sym, ap, ◌∙◌, subst, arith, append-nil, length-append}
+use Rattle.std.proofs.Common.{◌≡◌, ℕ, ◌+◌, ◌-◌, ◌≤◌, Bool, List, [], ◌++◌, length, take, drop, Option, refl, sym, ap, ◌∙◌, subst, arith, append-nil, length-append}
 use Rattle.std.proofs.Math.Seq.{take-add, take-append-add}
 use Rattle.std.proofs.lemmas.List.{take_all, drop-drop}
 use Rattle.std.specs.declared.option.Option.TheVariants.{Some, None}
 use Rattle.c2_base.specs.Sink.{HasWrittenPrefix, then_written, spare_less}
-use Rattle.c2_copying.specs.Writing.{Ending, complete, read_fault, write_fault, untouched, Breaks, IsOverSpare, Puts, StepsFollow, piece_of}
+use Rattle.c2_copying.specs.Writing.{Ending, write_fault, Breaks, IsOverSpare, Puts, StepsFollow, piece_of}
 use Rattle.c2_base.proofs.Written.{appended_twice, prefix_before, spare_less_two}
+use Rattle.c2_copying.proofs.Spares.{over_later, over_more}
 
 -- ---- lists
 
@@ -53,21 +54,6 @@ prefix_back : (old mid new : Option (List ℕ)) (xs ys : List ℕ) → mid ≡ t
     → HasWrittenPrefix old new (xs ++ ys)
 prefix_back old mid new xs ys all h =
     (length xs + h.0, h.1 ∙ ap (λ w. then_written w (take h.0 ys)) all ∙ appended_twice old xs (take h.0 ys) ∙ ap (then_written old) (sym (take-append-add xs ys h.0)))
-
--- a spare that doesn't hold more
-over_more : (e : Ending) (s : Option ℕ) (m n : ℕ) → m ≤ n → IsOverSpare e s m → IsOverSpare e s n
-over_more complete s m n le h = tt
-over_more read_fault s m n le h = tt
-over_more write_fault s m n le h = λ t is. omega (arith, h t is, le)
-over_more untouched s m n le h = tt
-
--- a spare that fell, and doesn't hold the rest
-over_later : (e : Ending) (old mid : Option ℕ) (m n : ℕ) → mid ≡ spare_less old m → IsOverSpare e mid n
-    → IsOverSpare e old (m + n)
-over_later complete old mid m n is h = tt
-over_later read_fault old mid m n is h = tt
-over_later write_fault old mid m n is h = λ t there. let less : t - m < n = h (t - m) (is ∙ ap (λ (o : Option ℕ). spare_less o m) there) in omega (arith, less)
-over_later untouched old mid m n is h = tt
 
 -- where the first of two steps breaks off, both do
 breaks_front :

@@ -97,6 +97,12 @@ abbrev pub IsWhole : {K T : Type 0} → (K → Option (List ℕ)) → (K → Opt
 IsWhole written spare finished bytes old new (Ok x) = Delivers written finished bytes old new
 IsWhole written spare finished bytes old new (Err e) = Breaks written spare finished bytes old new (ending_of e)
 
+-- what a step that appends so many bytes does to a stated spare, whatever is known of the bytes: it falls by as many; and a sink that failed held
+-- fewer
+abbrev pub TakesSpare : {T : Type 0} → Option ℕ → Option ℕ → ℕ → Result T CopyError → Type 0
+TakesSpare old new count (Ok x) = Spends old new count
+TakesSpare old new count (Err e) = IsOverSpare (ending_of e) old count
+
 -- what an error of a copy says of the source, by its count of faults before and after: it failed, or it didn't
 abbrev pub IsCopyReadCause : ℕ → ℕ → CopyError → Type 0
 IsCopyReadCause before now ReadFault = Rose before now

@@ -1,9 +1,9 @@
 // Copying a part of a source into a sink.
-ghost use Rattle.std.specs.Prelude.{◌+◌, ◌<◌, ◌≤◌, length, take, drop};
+ghost use Rattle.std.specs.Prelude.{◌+◌, ◌-◌, ◌<◌, ◌≤◌, length, take, drop};
 ghost use Rattle.std.specs.Option.{ForSome};
 ghost use Rattle.c2_base.specs.Sink.{WritesSink};
 ghost use Rattle.c2_base.specs.Source.{ReadsSource};
-ghost use Rattle.c2_copying.specs.Writing.{IsCopyReadCause, IsStep, IsCopyWriteCause, piece_of};
+ghost use Rattle.c2_copying.specs.Writing.{IsCopyReadCause, IsStep, IsCopyWriteCause, TakesSpare, piece_of};
 
 use c2_base::{Failed, Sink, Source, fill_at, write_all};
 use thiserror::Error;
@@ -30,6 +30,7 @@ fn copy_piece<S: Source, K: Sink>(
     requires { at + length piece.old ≤ S.len source.old }
     ensures step { ForSome (S.known source.old) (λ file. IsStep K.written K.spare K.finished
         (take (length piece.old) (drop at file)) sink.old sink.new result) }
+    ensures spare { TakesSpare (K.spare sink.old) (K.spare sink.new) (length piece.old) result }
     ensures reads { ReadsSource S.len S.known S.faults IsCopyReadCause
         source.old source.new result }
     ensures writes { WritesSink K.written K.finished K.faults IsCopyWriteCause
@@ -65,6 +66,7 @@ pub fn copy<S: Source, K: Sink>(
         (piece_of file from to) sink.old sink.new result) }
 
     // These hold of every source.
+    ensures spare { TakesSpare (K.spare sink.old) (K.spare sink.new) (to - from) result }
     ensures reads { ReadsSource S.len S.known S.faults IsCopyReadCause
         source.old source.new result }
     ensures writes { WritesSink K.written K.finished K.faults IsCopyWriteCause

@@ -1,30 +1,24 @@
 -- No error of a call over sources and a sink in memory is a fault of theirs.
-use Rattle.std.proofs.Common.{◌≡◌, ◌∙◌, ◌⊎◌, inl, inr, refl, ap, subst, arith, ℕ, ◌+◌, ◌<◌, ◌≤◌, false, List, [], length, map, All, Option, Some, None}
-use Rattle.std.specs.Prelude.{◌-◌, ◌^◌, ◌==◌, take, vec_len, if◌then◌else◌}
+use Rattle.std.proofs.Common.{◌≡◌, ◌∙◌, ◌⊎◌, inl, inr, refl, ap, subst, arith, ℕ, ◌+◌, ◌<◌, ◌≤◌, List, [], length, map, Option, Some, None}
+use Rattle.std.specs.Prelude.{◌-◌, ◌==◌, take, vec_len, if◌then◌else◌}
 use Rattle.std.proofs.lemmas.List.{length-take}
 use Rattle.c2_base.specs.Causes.{Rose}
 use Rattle.c2_base.specs.InMemory.{fresh_sink, sink_state}
+use Rattle.c2_base.specs.declared.limits.TheConstants.{MAX_STORE_LEN}
 use Rattle.c2_base.specs.declared.sinks.MemSink.{MemSink}
-use Rattle.c2_spec.specs.Container.{is_bmff}
+use Rattle.c2_spec.specs.Jpeg.Writing.{segments_len}
 use Rattle.c2_spec.specs.Judges.Panel.{SomeRose}
-use Rattle.c2_spec.specs.declared.digest.Alg.{Alg}
 use Rattle.c2_opening.specs.Opened.{IsOpeningCause}
 use Rattle.c2_opening.specs.declared.error.ValidateError.{ValidateError}
 use Rattle.c2_opening.specs.declared.error.ValidateError.TheVariants as check
 use Rattle.c2_validate.specs.Checked.{IsCheckReadCause}
-use Rattle.c2_new_file_spec.specs.Fresh.{GivesDigests}
-use Rattle.c2_copying.specs.Writing.{FitsSpare, write_fault}
+use Rattle.c2_copying.specs.Writing.{IsOverSpare, write_fault}
 use Rattle.c2_rules.specs.Asking.{IsJudgeCause}
 use Rattle.c2_build_refusals.specs.Kinds as kind
 use Rattle.c2_build_refusals.specs.Kinds.{ErrorKind, IsSourceCause, heard_of}
 use Rattle.c2_build_endings.specs.Endings.{kind_ending}
-use Rattle.c2_build_plain.specs.Answers.{Writes, embed_effects, file_of}
-use Rattle.c2_build_plain.specs.Meeting.{BuiltFileMeets, SomeEmbedding}
-use Rattle.c2_sample.specs.Sample.{IsSureFault, IsSureKind, no_judges, sample_definition, sample_message}
-use Rattle.c2_sample.proofs.Builds.{IsMade}
-use Rattle.c2_sample.proofs.MadeBytes.{message_bytes}
-use Rattle.c2_sample.proofs.Roomy.{most_put, result_len}
-use Rattle.c2_sample.proofs.WorkedDefinition.{texts_in}
+use Rattle.c2_build_plain.specs.Answers.{embed_effects}
+use Rattle.c2_sample.specs.Sample.{IsSureFault, IsSureKind}
 
 -- ---- counts
 
@@ -62,48 +56,39 @@ room_is_spare s room h =
 
 -- ---- the build
 
--- What is known of a build in memory: its media is a JPEG file, and the sink has room for it and the longest store.
-pub record InMemory (hash : Alg → List ℕ → List ℕ) (media : List ℕ) (sink : MemSink) : Type 0 where
-  pub comes : SomeEmbedding
-  pub meets : BuiltFileMeets
-  pub digests : GivesDigests hash
-  pub jpeg : is_bmff media ≡ false
-  pub bytes : All (λ b. b < 2 ^ 8) media
+-- What is known of a build in memory of media of this length: the sink has room for them and the packets of the longest store.
+pub record InMemory (len : ℕ) (sink : MemSink) : Type 0 where
   pub room : ℕ
   pub sink_is : sink_state sink ≡ fresh_sink room 0
-  pub holds : length media + most_put ≤ room
+  pub holds : len + segments_len MAX_STORE_LEN ≤ room
 
 -- what a sink in memory states as its spare
-abbrev spare_of : MemSink → Option ℕ
+abbrev pub spare_of : MemSink → Option ℕ
 spare_of s = if s.fail_at == 0 then Some (vec_len s.bytes - s.used) else None
 
 -- the sink doesn't fail
-no_write_fault : (hash : Alg → List ℕ → List ℕ) (media : List ℕ) (sink : MemSink) → InMemory hash media sink
-    → FitsSpare (Writes (IsMade hash media)) (spare_of sink) write_fault → ⊥
-no_write_fault hash media sink m spare =
-    let r = m.comes hash no_judges media sample_definition sample_message m.bytes message_bytes in
-    let less = spare m.room (room_is_spare sink m.room m.sink_is) (file_of r.0) (r.0, r.1, refl) in
-    let most =
-    result_len m.meets hash no_judges media sample_definition sample_message r.0 m.digests texts_in m.jpeg r.1 in
-    omega (arith, less, most, m.holds)
+no_write_fault : (len : ℕ) (sink : MemSink) → InMemory len sink
+    → IsOverSpare write_fault (spare_of sink) (len + segments_len MAX_STORE_LEN) → ⊥
+no_write_fault len sink m over =
+    let less = over m.room (room_is_spare sink m.room m.sink_is) in
+    omega (arith, less, m.holds)
 
 -- an error of it is a refusal, or memory ran out
 pub sure_kind :
-    {T : Type 0} (faults : T → ℕ) (judges : List T) (now : List ℕ) (hash : Alg → List ℕ → List ℕ) (media : List ℕ)
-    (sink : MemSink) (k : ErrorKind)
-    → judges ≡ [] → InMemory hash media sink
+    {T : Type 0} (faults : T → ℕ) (judges : List T) (now : List ℕ) (len : ℕ) (sink : MemSink) (k : ErrorKind)
+    → judges ≡ [] → InMemory len sink
     → IsSourceCause embed_effects (Rose 0 0 ⊎ Rose 0 0) 0 0 k → IsJudgeCause (map faults judges) now (heard_of k)
-    → FitsSpare (Writes (IsMade hash media)) (spare_of sink) (kind_ending k) → IsSureKind k
-sure_kind faults judges now hash media sink kind.refusal none m c j s = inl refl
-sure_kind faults judges now hash media sink kind.message_refusal none m c j s = inl refl
-sure_kind faults judges now hash media sink kind.front_refusal none m c j s = inl refl
-sure_kind faults judges now hash media sink kind.older_refusal none m c j s = inl refl
-sure_kind faults judges now hash media sink kind.other_refusal none m c j s = inl refl
-sure_kind faults judges now hash media sink kind.read_fault none m c j s = absurd (no_read_fault c)
-sure_kind faults judges now hash media sink kind.judge_fault none m c j s =
+    → IsOverSpare (kind_ending k) (spare_of sink) (len + segments_len MAX_STORE_LEN) → IsSureKind k
+sure_kind faults judges now len sink kind.refusal none m c j s = inl refl
+sure_kind faults judges now len sink kind.message_refusal none m c j s = inl refl
+sure_kind faults judges now len sink kind.front_refusal none m c j s = inl refl
+sure_kind faults judges now len sink kind.older_refusal none m c j s = inl refl
+sure_kind faults judges now len sink kind.other_refusal none m c j s = inl refl
+sure_kind faults judges now len sink kind.read_fault none m c j s = absurd (no_read_fault c)
+sure_kind faults judges now len sink kind.judge_fault none m c j s =
     absurd (nobody_rose faults judges now none j)
-sure_kind faults judges now hash media sink kind.write_fault none m c j s = absurd (no_write_fault hash media sink m s)
-sure_kind faults judges now hash media sink kind.no_memory none m c j s = inr refl
+sure_kind faults judges now len sink kind.write_fault none m c j s = absurd (no_write_fault len sink m s)
+sure_kind faults judges now len sink kind.no_memory none m c j s = inr refl
 
 -- ---- the check
 

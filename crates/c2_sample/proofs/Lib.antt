@@ -4,7 +4,7 @@ mod EachSample
 mod Faultless
 mod MadeBytes
 mod Making
+mod MediaLengths
 mod OneSample
-mod Roomy
 pub mod TheLaws
 mod WorkedDefinition

@@ -1,13 +1,12 @@
 // The build of a media file in memory.
-ghost use Rattle.std.specs.Prelude.{◌≡◌, ◌<◌, ◌^◌, IfOk, OnErr, false, length, true};
-ghost use Rattle.c2_spec.specs.Container.{is_bmff};
+ghost use Rattle.std.specs.Prelude.{◌≡◌, ◌<◌, ◌^◌, IfOk, OnErr, length, true};
 ghost use Rattle.c2_build_refusals.specs.Kinds.{kind_of, no_memory};
 ghost use Rattle.c2_sample.specs.Sample.{IsNewFile, IsSureKind, is_refusal};
 
 use crate::inputs::{sample_definition, sample_message};
 use c2_base::limits::MAX_STORE_LEN;
 use c2_base::{Blob, MemSink, NoMemory, SureSource};
-use c2_build_plain::{BuildError, each_build_comes_to_something, embed};
+use c2_build_plain::{BuildError, embed};
 use c2_hash::Hashing;
 use c2_jpegseg::segments_len;
 use c2_judge::Judge;
@@ -23,14 +22,12 @@ pub enum NewFile {
     Refused(BuildError),
 }
 
-/// Builds a store into a JPEG file, with the definition and the message of a sample. The sink has room for the media and the longest
-/// store, and no judge is there to be asked.
+/// Builds a store into a media file, with the definition and the message of a sample. The sink has room for the media and the packets of
+/// the longest store, and no judge is there to be asked.
 pub fn build<H: Hashing>(alloc: Global, hashing: &H, media: Blob) -> Result<NewFile, NoMemory>
-    requires jpeg { is_bmff media ≡ false }
-    requires small { length media < 2 ^ 62 }
+    requires { length media < 2 ^ 62 }
     ensures { IfOk result (IsNewFile H.digest_of media) }
 {
-    each_build_comes_to_something();
     let room = media
         .as_slice()
         .len()

@@ -7,13 +7,14 @@ use Rattle.c2_base.specs.declared.media.MediaError.{MediaError}
 use Rattle.c2_spec.specs.Container.{IsLocated}
 use Rattle.c2_spec.specs.Located.{Located, refused, here}
 use Rattle.c2_container.specs.Contained.{IsSaid}
-use Rattle.c2_copying.specs.Writing.{Begins, Breaks, Delivers, WritesFile, complete, write_fault}
+use Rattle.c2_copying.specs.Writing.{Begins, Breaks, Delivers, IsOverSpare, WritesFile, complete, write_fault}
 use Rattle.c2_sidecar.specs.Extracting.{ExtractsTo, extracted_of, store_of}
-use Rattle.c2_sidecar.specs.Extracts.{IsExtracted, Writes}
+use Rattle.c2_sidecar.specs.Extracts.{IsExtracted, Writes, ending_of}
 use Rattle.c2_sidecar.specs.Stages.{IsRefusedBy}
 use Rattle.c2_sidecar.specs.declared.error.Extracted.{Extracted}
 use Rattle.c2_sidecar.specs.declared.error.Extracted.TheVariants.{Done, NoStore, Refused}
 use Rattle.c2_sidecar.specs.declared.error.ExtractError.{ExtractError}
+use Rattle.c2_sidecar.specs.declared.error.ExtractError.TheVariants.{ReadFault, WriteFault, NoMemory}
 use Rattle.c2_sidecar.proofs.Locating.{said_refused}
 
 -- ---- one thing
@@ -39,6 +40,16 @@ refused_is file e (Ok NoStore) h k = absurd k
 refused_is file e (Ok (Refused reason number)) h k =
     located_is file (refused reason number) (said_refused file e reason number h k)
 refused_is file e (Err x) h k = tt
+
+-- it needed no spare
+pub refused_room : (e : MediaError) (r : Result Extracted ExtractError) (spare : Option ℕ) (count : ℕ) → IsRefusedBy e r
+    → IsOverSpare (ending_of r) spare count
+refused_room e (Ok (Done n)) spare count k = absurd k
+refused_room e (Ok NoStore) spare count k = absurd k
+refused_room e (Ok (Refused reason number)) spare count k = tt
+refused_room e (Err ReadFault) spare count k = tt
+refused_room e (Err WriteFault) spare count k = absurd k
+refused_room e (Err NoMemory) spare count k = tt
 
 -- ---- a store
 

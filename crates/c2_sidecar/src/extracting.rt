@@ -3,7 +3,8 @@ ghost use Rattle.std.specs.Prelude.{◌≡◌, true, IfOk, OnErr, OnOk};
 ghost use Rattle.std.specs.Option.{ForSome};
 ghost use Rattle.c2_base.specs.Sink.{WritesSink, unsaid};
 ghost use Rattle.c2_base.specs.Source.{ReadsSource};
-ghost use Rattle.c2_copying.specs.Writing.{EndsSink, WritesFile};
+ghost use Rattle.c2_base.specs.declared.limits.TheConstants.{MAX_STORE_LEN};
+ghost use Rattle.c2_copying.specs.Writing.{EndsSink, IsOverSpare, WritesFile};
 ghost use Rattle.c2_sidecar.specs.Extracts.{IsAnswerOf, IsExtracted, IsExtractReadCause, IsExtractWriteCause, Writes, ending_of};
 ghost use Rattle.c2_sidecar.specs.Stages.{IsFailure, IsRefusedBy, IsStored};
 
@@ -66,7 +67,8 @@ fn found_in(contained: Contained) -> Option<Found>
 /// are kept.
 ///
 /// [`ExtractError::ReadFault`] and [`ExtractError::WriteFault`] come only where the source or the sink failed in this call. `WriteFault`
-/// leaves a prefix of the store, and the sink unfinished. Every other answer but [`Extracted::Done`] leaves the sink as it was.
+/// leaves a prefix of the store, and the sink unfinished; it never comes within a stated spare that holds the store, and so not within one of
+/// 33,554,432 bytes. Every other answer but [`Extracted::Done`] leaves the sink as it was.
 pub fn extract<S: Source, K: Sink>(
     alloc: Global,
     source: &mut S,
@@ -80,6 +82,7 @@ pub fn extract<S: Source, K: Sink>(
     // These hold of every source.
     ensures within { IfOk result (IsAnswerOf (S.len source.old)) }
     ensures ends { EndsSink K.finished out.old out.new (ending_of result) }
+    ensures spare { IsOverSpare (ending_of result) (K.spare out.old) MAX_STORE_LEN }
     ensures reads { ReadsSource S.len S.known S.faults IsExtractReadCause
         source.old source.new result }
     ensures writes { WritesSink K.written unsaid K.faults IsExtractWriteCause

@@ -81,6 +81,13 @@ idle_ends finished sink read_fault idle = record { finish = refl; leaves = tt }
 idle_ends finished sink write_fault idle = absurd idle
 idle_ends finished sink untouched idle = record { finish = refl; leaves = refl }
 
+-- it needed no spare
+pub idle_room : (e : Ending) (spare : Option ℕ) (count : ℕ) → IsIdle e → IsOverSpare e spare count
+idle_room complete spare count idle = absurd idle
+idle_room read_fault spare count idle = tt
+idle_room write_fault spare count idle = absurd idle
+idle_room untouched spare count idle = tt
+
 -- ---- a refused container
 
 -- nothing was written

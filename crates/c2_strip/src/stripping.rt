@@ -3,7 +3,7 @@ ghost use Rattle.std.specs.Prelude.{◌<◌, length, IfOk};
 ghost use Rattle.std.specs.Option.{ForSome};
 ghost use Rattle.c2_base.specs.Sink.{WritesSink, unsaid};
 ghost use Rattle.c2_base.specs.Source.{ReadsSource};
-ghost use Rattle.c2_copying.specs.Writing.{EndsSink, WritesFile};
+ghost use Rattle.c2_copying.specs.Writing.{EndsSink, IsOverSpare, WritesFile};
 ghost use Rattle.c2_strip.specs.Answers.{IsAnswerOf, IsStripReadCause, IsStripped, IsStripWriteCause, Writes, ending_of};
 ghost use Rattle.c2_strip.specs.Endings.{IsRefusedBy};
 
@@ -34,7 +34,8 @@ fn refused(error: MediaError) -> Result<Stripped, StripError>
 /// would move, and places of them that the file keeps wouldn't (this is the project's own choice).
 ///
 /// [`StripError::ReadFault`] and [`StripError::WriteFault`] come only where the source or the sink failed in this call; they leave a prefix
-/// of what is to be written, and the sink unfinished. Every other answer but [`Stripped::Done`] leaves the sink as it was.
+/// of what is to be written, and the sink unfinished. `WriteFault` never comes within a stated spare that holds what is to be written, nor,
+/// whatever is known of the source, within one that holds the source. Every other answer but [`Stripped::Done`] leaves the sink as it was.
 pub fn strip<S: Source, K: Sink>(
     alloc: Global,
     source: &mut S,
@@ -50,6 +51,7 @@ pub fn strip<S: Source, K: Sink>(
     // These hold of every source.
     ensures within { IfOk result (IsAnswerOf (S.len source.old)) }
     ensures ends { EndsSink K.finished out.old out.new (ending_of result) }
+    ensures spare { IsOverSpare (ending_of result) (K.spare out.old) (S.len source.old) }
     ensures reads { ReadsSource S.len S.known S.faults IsStripReadCause
         source.old source.new result }
     ensures writes { WritesSink K.written unsaid K.faults IsStripWriteCause out.old out.new result }

@@ -1,9 +1,9 @@
 // The bytes outside a range, written to a sink.
-ghost use Rattle.std.specs.Prelude.{◌≡◌, ◌+◌, ◌<◌, ◌≤◌, true, length, OnErr, OnOk};
+ghost use Rattle.std.specs.Prelude.{◌≡◌, ◌+◌, ◌-◌, ◌<◌, ◌≤◌, true, length, IfErr, OnErr, OnOk};
 ghost use Rattle.std.specs.Option.{ForSome};
 ghost use Rattle.c2_base.specs.Sink.{WritesSink, unsaid};
 ghost use Rattle.c2_base.specs.Source.{ReadsSource};
-ghost use Rattle.c2_copying.specs.Writing.{IsCopyReadCause, IsStep, IsWhole, IsCopyWriteCause};
+ghost use Rattle.c2_copying.specs.Writing.{IsCopyReadCause, IsCopyWriteCause, IsOverSpare, IsStep, IsWhole, TakesSpare, ending_of};
 ghost use Rattle.c2_strip.specs.Stripping.{stripped};
 
 use c2_base::{Failed, Range, Sink, Source};
@@ -22,6 +22,8 @@ fn copy_outside<S: Source, K: Sink>(
     requires room { 0 < length buf.old }
     ensures step { ForSome (S.known source.old) (λ file. IsStep K.written K.spare K.finished
         (stripped range file) sink.old sink.new result) }
+    ensures spare { TakesSpare (K.spare sink.old) (K.spare sink.new)
+        (S.len source.old - range.length) result }
     ensures reads { ReadsSource S.len S.known S.faults IsCopyReadCause
         source.old source.new result }
     ensures writes { WritesSink K.written K.finished K.faults IsCopyWriteCause
@@ -51,6 +53,8 @@ pub(crate) fn write_outside<S: Source, K: Sink>(
     requires room { 0 < length buf.old }
     ensures whole { ForSome (S.known source.old) (λ file. IsWhole K.written K.spare K.finished
         (stripped range file) sink.old sink.new result) }
+    ensures spare { IfErr result (λ e. IsOverSpare (ending_of e) (K.spare sink.old)
+        (S.len source.old - range.length)) }
     ensures finished { OnOk result (K.finished sink.new ≡ true) }
     ensures unfinished { OnErr result (K.finished sink.new ≡ K.finished sink.old) }
     ensures reads { ReadsSource S.len S.known S.faults IsCopyReadCause

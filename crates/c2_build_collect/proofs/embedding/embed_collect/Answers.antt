@@ -6,7 +6,7 @@ use Rattle.c2_spec.specs.Judges.Panel.{panel_says}
 use Rattle.c2_collect_spec.specs.Outcomes.{IsCollectMade}
 use Rattle.c2_build_in_place.specs.Writings.{ready_file}
 use Rattle.c2_build_in_place.proofs.Endings.{all_written, copy_unjudged, unwritten}
-use Rattle.c2_build_in_place.proofs.Leaving.{sink_broken, sink_copied, sink_unwritten}
+use Rattle.c2_build_in_place.proofs.Leaving.{ready_most, room_broken, room_unwritten, sink_broken, sink_copied, sink_unwritten}
 use Rattle.c2_build_refusals.proofs.Judged.{hears_behind, hears_failed}
 use Rattle.c2_build_collect.specs.Answers.{Writes, embed_effects, prepare_effects}
 use Rattle.c2_build_collect.proofs.Causes.{prepares}
@@ -28,6 +28,10 @@ returns-in-Err-clause-embedded g c = λ file known bytes due message due' others
 pub returns-in-Err-clause-sources : goal.returns-in-Err-clause-sources
 returns-in-Err-clause-sources g c =
     pair_failed prepare_effects embed_effects prepares _ _ _ _ c.in-Err.error c.in-Err.ensures.sources
+
+pub returns-in-Err-clause-spare : goal.returns-in-Err-clause-spare
+returns-in-Err-clause-spare g c =
+    room_unwritten prepare_effects (λ h. h) _ _ _ _ c.in-Err.ensures.sources.media.cause _ _
 
 pub returns-in-Err-clause-sink : goal.returns-in-Err-clause-sink
 returns-in-Err-clause-sink g c =
@@ -88,6 +92,11 @@ pub returns-in-Err-write_file-clause-sources : goal.returns-in-Err-write_file-cl
 returns-in-Err-write_file-clause-sources g c =
     pair_broken embed_effects tt _ _ _ _ c.write_file.new.media c.in-Ok.ready c.in-Err-write_file.error c.copy_fault.result
     c.copy_fault.ensures c.in-Ok.ensures.sources c.in-Err-write_file.ensures.reads
+
+pub returns-in-Err-write_file-clause-spare : goal.returns-in-Err-write_file-clause-spare
+returns-in-Err-write_file-clause-spare g c =
+    room_broken c.in-Err-write_file.error c.copy_fault.result c.copy_fault.ensures _ _ _ c.in-Err-write_file.ensures.written.over
+    (ready_most _ c.in-Ok.ready c.in-Ok.ensures.prepared.can_write)
 
 pub returns-in-Err-write_file-clause-sink : goal.returns-in-Err-write_file-clause-sink
 returns-in-Err-write_file-clause-sink g c =

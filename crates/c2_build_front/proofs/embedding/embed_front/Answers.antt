@@ -1,14 +1,15 @@
 use Rattle.c2_new_front_spec.proofs.TheLaws.{a_front_comes_to_one_thing_made, a_made_front_meets_the_rules}
 use Rattle.std.proofs.Common.{List, refl, subst, sym, ℕ, ◌∙◌}
 use Rattle.std.specs.Prelude.{Err, Ok}
-use Rattle.c2_copying.specs.Writing.{Breaks, Delivers, ending_of}
+use Rattle.c2_copying.specs.Writing.{Breaks, Delivers, IsOverSpare, ending_of}
 use Rattle.c2_bmff_binding_front.specs.Putting.{with_store}
 use Rattle.c2_new_front_spec.specs.Outcomes.{IsFrontMade}
 use Rattle.c2_build_front.proofs.Causes.{prepares}
 use Rattle.c2_build_in_place.proofs.Endings.{all_written, unwritten}
-use Rattle.c2_build_in_place.proofs.Leaving.{signed_broken, signed_copied, signed_failed, sink_broken, sink_copied, sink_unwritten}
+use Rattle.c2_build_in_place.proofs.Leaving.{room_broken, room_unwritten, signed_broken, signed_copied, signed_failed, sink_broken, sink_copied, sink_unwritten}
 use Rattle.c2_build_front.specs.Answers.{Writes, embed_effects, prepare_effects}
-use Rattle.c2_build_front.proofs.Ended.{broken_off, opened_once, range_is, told_of_file}
+use Rattle.c2_build_front.proofs.Ended.{broken_off, front_most, opened_once, range_is, told_of_file}
+use Rattle.c2_build_front.specs.Steps.{front_file_len}
 use Rattle.c2_build_front.proofs.embedding.embed_front.Goals as goal
 
 -- ---- nothing is ready to be written
@@ -25,6 +26,10 @@ returns-in-Err-clause-embedded g c = λ file known bytes due message due'. recor
 pub returns-in-Err-clause-sources : goal.returns-in-Err-clause-sources
 returns-in-Err-clause-sources g c =
     signed_failed prepare_effects embed_effects prepares _ _ _ c.in-Err.error c.in-Err.ensures.sources
+
+pub returns-in-Err-clause-spare : goal.returns-in-Err-clause-spare
+returns-in-Err-clause-spare g c =
+    room_unwritten prepare_effects (λ h. h) _ _ _ _ c.in-Err.ensures.sources.media.cause _ _
 
 pub returns-in-Err-clause-sink : goal.returns-in-Err-clause-sink
 returns-in-Err-clause-sink g c =
@@ -78,6 +83,15 @@ pub returns-clause-sources : goal.returns-clause-sources
 returns-clause-sources g c =
     signed_broken embed_effects tt _ _ _ c.write_front.new.media c.in-Ok.ready c.in-Err-write_front.error c.copy_fault.result
     c.copy_fault.ensures c.in-Ok.ensures.sources c.in-Err-write_front.ensures.reads
+
+pub returns-clause-spare : goal.returns-clause-spare
+returns-clause-spare g c =
+    let over =
+    subst
+    (λ (store : List ℕ). IsOverSpare (ending_of c.in-Err-write_front.error) (g.K.Sink.spare c.args.out.now) (front_file_len c.in-Ok.ready.front store))
+    c.as_slice-store.ensures.value c.in-Err-write_front.ensures.written.over in
+    room_broken c.in-Err-write_front.error c.copy_fault.result c.copy_fault.ensures _ _ _ over
+    (front_most _ c.in-Ok.ready c.in-Ok.ensures.prepared.can_write)
 
 pub returns-clause-sink : goal.returns-clause-sink
 returns-clause-sink g c =

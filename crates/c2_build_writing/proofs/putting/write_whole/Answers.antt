@@ -1,15 +1,15 @@
-use Rattle.std.proofs.Common.{List, Option, subst, sym, arith, ℕ, ◌∙◌}
+use Rattle.std.proofs.Common.{ap, List, Option, subst, sym, arith, ℕ, ◌∙◌}
 use Rattle.std.proofs.lemmas.Bool.{false≢true}
-use Rattle.c2_base.specs.Sink.{Appends}
+use Rattle.c2_base.specs.Sink.{Appends, spare_less}
 use Rattle.c2_calls_spec.proofs.SourceLemmas.{reads_then}
-use Rattle.c2_build_writing.specs.Puts.{put_file}
+use Rattle.c2_build_writing.specs.Puts.{put_file, put_file_len}
 use Rattle.c2_build_writing.proofs.Written.{writes_finish, writes_unsaid}
 use Rattle.c2_build_writing.proofs.putting.write_whole.Goals as goal
 
 -- a source or the sink failed
 pub returns-in-Err-clause-written : goal.returns-in-Err-clause-written
 returns-in-Err-clause-written g c =
-    record { whole = λ file known. c.in-Err.ensures.step file known; finish = c.in-Err.ensures.writes.stays.unfinished }
+    record { whole = λ file known. c.in-Err.ensures.step file known; over = c.in-Err.ensures.spare; finish = c.in-Err.ensures.writes.stays.unfinished }
 
 pub returns-in-Err-clause-writes : goal.returns-in-Err-clause-writes
 returns-in-Err-clause-writes g c =
@@ -26,6 +26,7 @@ returns-in-Ok-finish-clause-written g c = record {
         (sym c.in-Ok-finish.ensures.written) (c.in-Ok.ensures.step file known).all;
     ends = c.in-Ok-finish.ensures.finished;
   };
+  over = tt;
   finish = c.in-Ok-finish.ensures.finished;
 }
 
@@ -39,6 +40,7 @@ returns-in-Err-finish-clause-written g c = record {
   whole = λ file known.
       c.steps_follow.ensures.steps.open_end (put_file c.args.draft c.args.store.now file) c.args.out.now c.write_over.new.out c.finish.new.self (c.in-Ok.ensures.step file known) c.in-Err-finish.ensures.written c.in-Err-finish.ensures.unfinished
       (λ s is. false≢true (c.in-Err-finish.ensures.within s is (omega arith)));
+  over = λ s there. absurd (false≢true (c.in-Err-finish.ensures.within _ (c.in-Ok.ensures.spare ∙ ap (λ (o : Option ℕ). spare_less o (put_file_len c.args.draft c.args.store.now)) there) (omega arith)));
   finish = c.in-Err-finish.ensures.unfinished ∙ c.in-Ok.ensures.writes.stays.unfinished;
 }
 

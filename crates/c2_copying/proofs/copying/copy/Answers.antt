@@ -1,7 +1,9 @@
-use Rattle.std.proofs.Common.{◌≡◌, ℕ, take, length, refl, subst, ◌∙◌, arith}
+use Rattle.std.proofs.Common.{◌≡◌, ℕ, ◌+◌, ◌-◌, take, length, refl, subst, ◌∙◌, arith}
 use Rattle.std.proofs.lemmas.List.{length-take-le}
+use Rattle.c2_base.specs.Sink.{Spends}
 use Rattle.c2_copying.specs.Writing.{IsCopyReadCause, IsCopyWriteCause, Puts, ending_of, piece_of}
 use Rattle.c2_copying.proofs.Kept.{reads_then, sink_stays, sink_still, writes_then}
+use Rattle.c2_copying.proofs.Spares.{over_behind, spends_none, spends_two}
 use Rattle.c2_copying.proofs.Written.{next_breaks, next_piece, puts_none}
 use Rattle.c2_copying.proofs.copying.copy.Goals as goal
 use Rattle.c2_base.proofs.Written.{source_stays}
@@ -15,6 +17,7 @@ pieces-init g c = record {
   count = refl;
   wrote = sink_still g.K.Sink.written g.K.Sink.finished g.K.Sink.faults c.args.sink.now;
   out_count = refl;
+  spent = spends_none (g.K.Sink.spare c.args.sink.now) (c.args.from - c.args.from) (omega arith);
   puts = λ file known. puts_none g.K.Sink.written g.K.Sink.spare g.K.Sink.finished file c.args.from c.args.sink.now;
 }
 
@@ -26,6 +29,16 @@ returns-in-Err-clause-step g c = λ file known.
     length-take-le c.min-len.result c.pieces.buf (omega (arith, c.min-len.ensures)) in
     next_breaks g.K.Sink.written g.K.Sink.spare g.K.Sink.finished file c.args.from c.pieces.at c.args.to c.min-len.result (length (take c.min-len.result c.pieces.buf)) c.args.sink.now c.pieces.sink c.copy_piece.new.sink (ending_of c.in-Err.error)
     before.begun (omega (arith, c.min-len.ensures, before.within, c.pieces-test.true)) size (before.puts file known) (c.in-Err.ensures.step file (before.read.same_bytes ∙ known))
+
+-- nor is then what a stated spare has room for
+pub returns-in-Err-clause-spare : goal.returns-in-Err-clause-spare
+returns-in-Err-clause-spare g c =
+    let before = c.pieces.invariant in
+    let size : length (take c.min-len.result c.pieces.buf) ≡ c.min-len.result =
+    length-take-le c.min-len.result c.pieces.buf (omega (arith, c.min-len.ensures)) in
+    over_behind (ending_of c.in-Err.error) (g.K.Sink.spare c.args.sink.now) (g.K.Sink.spare c.pieces.sink)
+    (c.pieces.at - c.args.from) (length (take c.min-len.result c.pieces.buf)) (c.args.to - c.args.from)
+    before.spent c.in-Err.ensures.spare (omega (arith, size, before.begun, c.min-len.ensures, before.within, c.pieces-test.true))
 
 pub returns-in-Err-clause-reads : goal.returns-in-Err-clause-reads
 returns-in-Err-clause-reads g c =
@@ -53,11 +66,22 @@ pieces-preserved g c =
           sink_stays g.K.Sink.written g.K.Sink.finished g.K.Sink.faults c.args.sink.now c.pieces.sink
           c.copy_piece.new.sink before.wrote call.writes.stays;
       out_count = call.writes.quiet ∙ before.out_count;
+      spent =
+          spends_two (g.K.Sink.spare c.args.sink.now) (g.K.Sink.spare c.pieces.sink) (g.K.Sink.spare c.copy_piece.new.sink)
+          (c.pieces.at - c.args.from) (length (take c.min-len.result c.pieces.buf)) (c.pieces.at + c.min-len.result - c.args.from)
+          before.spent call.spare (omega (arith, size, before.begun));
       puts = λ file known.
           next_piece g.K.Sink.written g.K.Sink.spare g.K.Sink.finished file c.args.from c.pieces.at c.min-len.result
           (length (take c.min-len.result c.pieces.buf)) c.args.sink.now c.pieces.sink c.copy_piece.new.sink
           before.begun size (before.puts file known) (call.step file (before.read.same_bytes ∙ known));
     }
+
+-- of a stated spare all of it is taken
+pub returns-clause-spare : goal.returns-clause-spare
+returns-clause-spare g c =
+    let end : c.pieces.at ≡ c.args.to = omega (arith, c.pieces.invariant.within, c.pieces-test.false) in
+    subst (λ (n : ℕ). Spends (g.K.Sink.spare c.args.sink.now) (g.K.Sink.spare c.pieces.sink) (n - c.args.from)) end
+    c.pieces.invariant.spent
 
 -- all pieces are
 pub returns-clause-step : goal.returns-clause-step

@@ -1,6 +1,6 @@
 use Rattle.std.proofs.Common.{◌≡◌, ◌≤◌, ◌-◌}
 use Rattle.std.specs.Option.{ForSome}
-use Rattle.c2_base.specs.Sink.{StaysSink}
+use Rattle.c2_base.specs.Sink.{Spends, StaysSink}
 use Rattle.c2_base.specs.Source.{StaysSource}
 use Rattle.c2_copying.specs.Writing.{Puts, piece_of}
 use Rattle.c2_copying.proofs.copying.copy.Given as goal
@@ -14,6 +14,7 @@ invariant-pieces g l = record {
   count : g.S.Source.faults l.source ≡ g.S.Source.faults l.fn.source;
   wrote : StaysSink g.K.Sink.written g.K.Sink.finished g.K.Sink.faults l.fn.sink l.sink;
   out_count : g.K.Sink.faults l.sink ≡ g.K.Sink.faults l.fn.sink;
+  spent : Spends (g.K.Sink.spare l.fn.sink) (g.K.Sink.spare l.sink) (l.at - l.from);
   puts : ForSome (g.S.Source.known l.fn.source) (λ file. Puts g.K.Sink.written g.K.Sink.spare g.K.Sink.finished (piece_of file l.from l.at) l.fn.sink l.sink);
 }
 

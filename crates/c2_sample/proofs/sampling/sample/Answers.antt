@@ -1,11 +1,10 @@
 use Rattle.c2_build_plain.proofs.TheLaws.{a_build_comes_to_one_thing_embedding}
-use Rattle.std.proofs.Common.{◌∙◌, ap, arith, length, map, subst}
-use Rattle.c2_spec.specs.Container.{is_bmff}
+use Rattle.std.proofs.Common.{ap, arith, length, map, subst}
 use Rattle.c2_spec.specs.Judges.Panel.{panel_says}
 use Rattle.c2_calls_spec.proofs.PanelLemmas.{hears_nobody, hears_same}
 use Rattle.c2_sample.specs.Sample.{IsNewFile, SampleAsks, sample_heard}
 use Rattle.c2_sample.proofs.Builds.{built_asks, refused_asks}
-use Rattle.c2_sample.proofs.Roomy.{media_is_jpeg, media_len}
+use Rattle.c2_sample.proofs.MediaLengths.{media_len}
 use Rattle.c2_sample.proofs.sampling.sample.Goals as goal
 
 -- what so many pieces ask is what the check of the new file asks
@@ -26,10 +25,6 @@ returns-in-Ok-Refused-clause-panel g c =
     hears_nobody _ _ _ sample_heard (λ said. SampleAsks g.H.Hashing.digest_of said c.args.count) c.args.judges.now _
     (λ qs asks. refused_asks a_build_comes_to_one_thing_embedding g.H.Hashing.digest_of said c.args.count c.in-Ok.media c.in-Ok-Refused.error qs c.in-Ok.ensures refused asks)
 
--- the media is a JPEG file
-pub build-requires-clause-jpeg : goal.build-requires-clause-jpeg
-build-requires-clause-jpeg g c = ap is_bmff c.in-Ok.ensures ∙ media_is_jpeg c.args.count
-
--- and small
-pub build-requires-clause-small : goal.build-requires-clause-small
-build-requires-clause-small g c = omega (arith, ap length c.in-Ok.ensures, media_len c.args.count)
+-- the media is small
+pub build-requires : goal.build-requires
+build-requires g c = omega (arith, ap length c.in-Ok.ensures, media_len c.args.count)

@@ -1,8 +1,10 @@
-use Rattle.std.proofs.Common.{List, ℕ, length, ap, sym, subst, ◌∙◌}
+use Rattle.std.proofs.Common.{◌≤◌, IfSome, List, Option, ℕ, length, ap, arith, sym, subst, ◌∙◌}
+use Rattle.c2_base.specs.declared.limits.TheConstants.{MAX_STORE_LEN}
+use Rattle.c2_base.specs.declared.media.Found.{Found}
 use Rattle.c2_spec.specs.Located.{absent, here}
 use Rattle.c2_sidecar.specs.Extracts.{IsExtracted}
 use Rattle.c2_sidecar.specs.declared.error.Extracted.TheVariants.{Done}
-use Rattle.c2_sidecar.proofs.Extraction.{all_written, located_is, part_written, refused_is}
+use Rattle.c2_sidecar.proofs.Extraction.{all_written, located_is, part_written, refused_is, refused_room}
 use Rattle.c2_sidecar.proofs.Locating.{said_here, said_none}
 use Rattle.c2_sidecar.proofs.extracting.extract.Goals as goal
 
@@ -10,6 +12,9 @@ use Rattle.c2_sidecar.proofs.extracting.extract.Goals as goal
 pub returns-in-Err-clause-answer : goal.returns-in-Err-clause-answer
 returns-in-Err-clause-answer g c =
     λ file known. refused_is file c.in-Err.error c.refused.result (c.in-Err.ensures.said file known) c.refused.ensures
+
+pub returns-in-Err-clause-spare : goal.returns-in-Err-clause-spare
+returns-in-Err-clause-spare g c = refused_room c.in-Err.error c.refused.result _ _ c.refused.ensures
 
 -- there is no store
 pub returns-in_default-clause-answer : goal.returns-in_default-clause-answer
@@ -37,3 +42,11 @@ returns-clause-written g c = λ file known.
     part_written g.K.Sink.written g.K.Sink.spare g.K.Sink.finished file f c.as_slice-store.result.now c.args.out.now
     c.write_store.new.sink c.as_slice-store.ensures.value
     (said_here file c.in-Ok.contained f (c.in-Ok.ensures.said file known) (sym c.found_in.ensures ∙ c.in-Some.is)) c.in-Err-write_store.ensures.stored
+
+pub returns-clause-spare : goal.returns-clause-spare
+returns-clause-spare g c = λ s there.
+    let f = c.in-Some.found in
+    let small : length f.store ≤ MAX_STORE_LEN =
+    subst (λ (o : Option Found). IfSome o (λ (x : Found). length x.store ≤ MAX_STORE_LEN)) (sym c.found_in.ensures ∙ c.in-Some.is)
+    c.in-Ok.ensures.within.store in
+    omega (arith, c.in-Err-write_store.ensures.stored.over s there, small, ap (λ (xs : List ℕ). length xs) c.as_slice-store.ensures.value)

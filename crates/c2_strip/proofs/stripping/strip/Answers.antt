@@ -1,7 +1,9 @@
-use Rattle.std.proofs.Common.{Ok, ◌∙◌, refl}
+use Rattle.std.proofs.Common.{Ok, ◌-◌, ◌∙◌, arith, refl, subst}
+use Rattle.c2_copying.specs.Writing.{IsOverSpare, ending_of as of_copy}
+use Rattle.c2_copying.specs.declared.copying.CopyError.{CopyError}
 use Rattle.c2_strip.specs.Answers.{ending_of}
 use Rattle.c2_strip.specs.declared.error.Stripped.TheVariants.{Done}
-use Rattle.c2_strip.proofs.Answering.{all_written, idle_ends, idle_file, other_idle, part_read, part_written, refused_idle, refused_is, refused_reads, refused_within, refused_writes, stays_unsaid, stripped_is}
+use Rattle.c2_strip.proofs.Answering.{all_written, idle_ends, idle_file, idle_room, other_idle, part_read, part_written, refused_idle, refused_is, refused_reads, refused_within, refused_writes, stays_unsaid, stripped_is}
 use Rattle.c2_strip.proofs.stripping.strip.Goals as goal
 
 -- the container is refused
@@ -16,6 +18,10 @@ returns-in-Err-clause-written g c =
 pub returns-in-Err-clause-within : goal.returns-in-Err-clause-within
 returns-in-Err-clause-within g c =
     refused_within (g.S.Source.len c.args.source.now) (g.S.Source.faults c.args.source.now) (g.S.Source.faults c.locate.new.source) c.in-Err.error c.refused.result c.in-Err.ensures.cause c.refused.ensures
+
+pub returns-in-Err-clause-spare : goal.returns-in-Err-clause-spare
+returns-in-Err-clause-spare g c =
+    idle_room (ending_of c.refused.result) _ _ (refused_idle c.in-Err.error c.refused.result c.refused.ensures)
 
 pub returns-in-Err-clause-ends : goal.returns-in-Err-clause-ends
 returns-in-Err-clause-ends g c =
@@ -42,6 +48,11 @@ returns-in_default-clause-written g c =
 pub returns-in_default-clause-within : goal.returns-in_default-clause-within
 returns-in_default-clause-within g c =
     c.answer_of-answer.ensures.within (g.S.Source.len c.args.source.now) c.in-Ok.ensures.within
+
+pub returns-in_default-clause-spare : goal.returns-in_default-clause-spare
+returns-in_default-clause-spare g c =
+    idle_room (ending_of (Ok c.answer_of-answer.result)) _ _
+    (other_idle c.answer_of-answer.result c.in_default.not-Done)
 
 pub returns-in_default-clause-ends : goal.returns-in_default-clause-ends
 returns-in_default-clause-ends g c =
@@ -78,3 +89,11 @@ pub returns-clause-written : goal.returns-clause-written
 returns-clause-written g c = λ file known.
     part_written g.K.Sink.written g.K.Sink.spare g.K.Sink.finished file c.in-Done.range c.args.out.now c.write_outside.new.sink _ c.in-Err-WriteFault.field-0-is
     (c.in-Done.ensures.strips file (c.in-Ok.ensures.said file known)) (c.in-Err-WriteFault.ensures.whole file (c.in-Ok.ensures.stays.same_bytes ∙ known))
+
+pub returns-clause-spare : goal.returns-clause-spare
+returns-clause-spare g c = λ s there.
+    let over =
+    subst
+    (λ (e : CopyError). IsOverSpare (of_copy e) (g.K.Sink.spare c.args.out.now) (g.S.Source.len c.locate.new.source - c.in-Done.range.length))
+    c.in-Err-WriteFault.field-0-is c.in-Err-WriteFault.ensures.spare in
+    omega (arith, over s there, c.in-Ok.ensures.stays.same_len)
