@@ -1,3 +1,5 @@
 pub mod Answers
 pub mod Steps
 pub mod Asked
+pub use Rattle.c2_build_collect_base.specs.Errors
+pub use Rattle.c2_build_collect_base.specs.Grounds

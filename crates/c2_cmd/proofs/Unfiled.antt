@@ -15,12 +15,11 @@ use Rattle.c2_rules.specs.declared.answer.Answer.TheVariants as checked
 use Rattle.c2_spec.specs.Located.{Opening, refused, absent, here}
 use Rattle.c2_spec.specs.declared.digest.Alg.{Alg}
 use Rattle.c2_spec.specs.declared.panel.Verdict.{Verdict}
-use Rattle.c2_sample.specs.declared.types.Sampled.{Sampled}
-use Rattle.c2_sample.specs.declared.types.Sampled.TheVariants as sampled
+use Rattle.c2_cmd_building.proofs.TheLaws.{a_sample_writes_no_file}
 use Rattle.c2_validate.specs.declared.external.External.{External}
 use Rattle.c2_validate.specs.declared.external.External.TheVariants.{Of, StoreRefused}
 use Rattle.c2_cmd_outcome.specs.Outcome.{Outcome, Reports, answered}
-use Rattle.c2_cmd_building.specs.Outcomes.{IsPlanOutcome, IsSampleOutcome, plan_outcome, sample_outcome}
+use Rattle.c2_cmd_building.specs.Outcomes.{IsPlanOutcome, IsSampleOutcome, plan_outcome}
 use Rattle.c2_cmd_reading.specs.Outcomes.{IsCompareOutcome, IsDigestOutcome, IsExternalOutcome, IsListOutcome, IsMediaOutcome, IsQuestioned, IsShown, IsValidated, compare_outcome, external_outcome}
 
 -- what is reported of what was opened has no file, if none has over a store
@@ -59,11 +58,6 @@ unfiled_plan_front (Err refusal) = refl
 unfiled_plan_collect : (r : Result (List ℕ) CollectRefusal) → (plan_collect_outcome r).file ≡ None
 unfiled_plan_collect (Ok bytes) = refl
 unfiled_plan_collect (Err refusal) = refl
-
--- what is reported of a sample has no file
-unfiled_sample : (n : ℕ) (s : Sampled) → (sample_outcome n s).file ≡ None
-unfiled_sample n (sampled.Checked lengths found) = refl
-unfiled_sample n (sampled.Refused e) = refl
 
 -- what is reported of the check with an external store has no file
 unfiled_external : (e : External) → (external_outcome e).file ≡ None
@@ -123,4 +117,4 @@ plan_collect_unfiled hash said media definition other e h = ap (λ (o : Outcome)
 -- `sample`
 pub sample_unfiled : (hash : Alg → List ℕ → List ℕ) (said : Question → Verdict) (n : ℕ) (e : Outcome)
     → IsSampleOutcome hash said n e → e.file ≡ None
-sample_unfiled hash said n e h = ap (λ (o : Outcome). o.file) h.2 ∙ unfiled_sample n h.0
+sample_unfiled hash said n e h = ap (λ (o : Outcome). o.file) h.2 ∙ a_sample_writes_no_file n h.0

@@ -10,15 +10,15 @@ use Rattle.c2_spec.specs.Container.{IsLocated}
 use Rattle.c2_spec.specs.Located.{absent}
 use Rattle.c2_rules.specs.Validated.{AreQuestions, CheckAsks}
 use Rattle.c2_compare_spec.specs.Comparison.{CompareAsks}
-use Rattle.c2_build_plain.specs.Building.{Built, EmbedAsks, IsEmbedded, PlanAsks}
-use Rattle.c2_build_plain.specs.Meeting.{BuiltMeets}
+use Rattle.c2_cmd_building.specs.Building.{Built, EmbedAsks, IsEmbedded, PlanAsks}
+use Rattle.c2_cmd_building.specs.Meeting.{BuiltMeets}
 use Rattle.c2_new_file_spec.specs.Fresh.{GivesDigests}
 use Rattle.c2_collect_spec.specs.Made.{CollectedMeets}
 use Rattle.c2_collect_spec.specs.Outcomes.{CollectAsks, CollectPlanAsks, IsCollectMade, NewFile as CollectedFile}
 use Rattle.c2_new_front_spec.specs.Made.{FrontMeets}
 use Rattle.c2_new_front_spec.specs.Outcomes.{IsFrontMade, NewFile}
-use Rattle.c2_build_plain.specs.Restored.{Restores}
-use Rattle.c2_sample.specs.Sample.{SampleAsks}
+use Rattle.c2_cmd_building.specs.Restored.{Restores}
+use Rattle.c2_cmd_building.specs.Sample.{SampleAsks}
 use Rattle.c2_texts.specs.Texts.{usage_line}
 use Rattle.c2_validate.specs.External.{ExternalAsks}
 use Rattle.c2_cmd_outcome.specs.Outcome.{Outcome, reports}

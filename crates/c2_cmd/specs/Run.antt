@@ -9,7 +9,7 @@ use Rattle.c2_spec.specs.declared.digest.Alg.{Alg}
 use Rattle.c2_spec.specs.declared.panel.Verdict.{Verdict}
 use Rattle.c2_spec.specs.Judges.Panel.{SomeRose, Judges, panel_says}
 use Rattle.c2_rules.specs.Asking.{HaveAsked, HaveAskedPrefix, HaveFailed, HasHeard}
-use Rattle.c2_build_collect.specs.Answers as collect
+use Rattle.c2_cmd_collect.specs.Answers as collect
 use Rattle.c2_compare.specs.Comparing.{IsNotAccepted}
 use Rattle.c2_sidecar.specs.Checking.{IsRefusedFile}
 use Rattle.c2_build_refusals.specs.Stages.{IsDefinitionRefused, IsMediaRefused, IsToldRefused}

@@ -1,10 +1,14 @@
 -- The laws of this crate, for the proofs of the crates above it.
+use Rattle.c2_build_plain.proofs.RestoredLaws as restored
 use Rattle.c2_build_plain.proofs.TheLaws.{a_build_asks_one_list_embedding, a_build_asks_one_list_plan, a_build_comes_to_one_thing_embedding, a_build_comes_to_one_thing_plan}
+use Rattle.c2_build_plain.specs.Restored.{BuiltIsRestored}
 use Rattle.c2_cmd_building.proofs.Making.{one_embedding}
 use Rattle.c2_cmd_building.specs.Laws.{OneBuildingOutcome, OneBuildingQuestions}
 use Rattle.c2_cmd_building.specs.Outcomes.{plan_outcome, sample_outcome}
+use Rattle.c2_sample.specs.declared.types.Sampled.{Sampled}
+use Rattle.c2_sample.specs.declared.types.Sampled.TheVariants as sampled
 use Rattle.c2_sample.proofs.TheLaws.{a_sample_comes_to_one_thing_asks, a_sample_comes_to_one_thing_sample}
-use Rattle.std.proofs.Common.{ap, sym, ◌∙◌}
+use Rattle.std.proofs.Common.{◌≡◌, ℕ, None, ap, refl, sym, ◌∙◌}
 
 -- each command that builds comes to one outcome at most, and asks one list of questions at most
 pub one_building_outcome_outcome : OneBuildingOutcome
@@ -23,3 +27,12 @@ one_building_outcome_questions = record {
   embed = a_build_asks_one_list_embedding;
   sample = a_sample_comes_to_one_thing_asks;
 }
+
+-- the file that is built over a media file without a store strips to it
+pub a_built_file_is_restored : BuiltIsRestored
+a_built_file_is_restored = restored.a_built_file_is_restored
+
+-- what is reported of a sample has no file
+pub a_sample_writes_no_file : (n : ℕ) (s : Sampled) → (sample_outcome n s).file ≡ None
+a_sample_writes_no_file n (sampled.Checked lengths found) = refl
+a_sample_writes_no_file n (sampled.Refused e) = refl

@@ -7,7 +7,7 @@ use Rattle.c2_collect_spec.specs.Outcomes.{NewFile}
 use Rattle.c2_build_refusals.specs.Kinds.{ComesAs, HasOutcome}
 use Rattle.c2_build_refusals.specs.declared.error.BuildError.{BuildError}
 use Rattle.c2_build_refusals.specs.declared.types.Embedded.{Embedded}
-use Rattle.c2_build_collect_base.specs.Errors.{IsAnswerTo, error_of}
+use Rattle.c2_build_collect.specs.Errors.{IsAnswerTo, error_of}
 use Rattle.c2_build_collect.specs.Answers.{HasRange, IsRangeOf, file_of}
 use Rattle.c2_cmd_outcome.specs.Outcome.{Outcome}
 use Rattle.c2_cmd_outcome.specs.Reply.{IsReplyTo, outcome_of}

@@ -13,7 +13,7 @@ use Rattle.c2_build_refusals.specs.Sinks.{EndsOut}
 use Rattle.c2_build_refusals.specs.declared.error.BuildError.{BuildError}
 use Rattle.c2_build_refusals.specs.declared.types.Embedded.{Embedded}
 use Rattle.c2_build_endings.specs.Endings.{build_ending}
-use Rattle.c2_build_collect_base.specs.Errors.{error_of}
+use Rattle.c2_build_collect.specs.Errors.{error_of}
 use Rattle.c2_build_collect.specs.Answers.{EmbedsCollected, IsCollectMet, Writes, file_of}
 use Rattle.c2_cmd_outcome.specs.Left.{state_of}
 use Rattle.c2_cmd_outcome.specs.Reply.{IsFaultOf, IsReplyTo}

@@ -6,7 +6,7 @@ use Rattle.c2_spec.specs.declared.digest.Alg.{Alg}
 use Rattle.c2_spec.specs.declared.panel.Verdict.{Verdict}
 use Rattle.c2_collect_spec.specs.Order.{CollectRefusal}
 use Rattle.c2_collect_spec.specs.Outcomes.{IsCollectMade, IsCollectPlanned, NewFile}
-use Rattle.c2_build_collect_base.specs.Errors.{error_of}
+use Rattle.c2_build_collect.specs.Errors.{error_of}
 use Rattle.c2_cmd_outcome.specs.Outcome.{Outcome}
 use Rattle.c2_cmd_written_spec.specs.Builds.{new_file_outcome, range_outcome, result_outcome, tbs_outcome}
 use Rattle.c2_cmd_written_spec.specs.Refused.{with_error}

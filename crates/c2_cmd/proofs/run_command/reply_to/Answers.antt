@@ -2,16 +2,16 @@ use Rattle.c2_cmd_collect.proofs.TheLaws.{one_collect_outcome_outcome}
 use Rattle.c2_cmd_building.proofs.TheLaws.{one_building_outcome_outcome}
 use Rattle.c2_cmd_reading.proofs.TheLaws.{one_reading_outcome_outcome}
 use Rattle.c2_cmd_front.proofs.TheLaws.{one_front_outcome_plan}
-use Rattle.c2_build_plain.proofs.RestoredLaws.{a_built_file_is_restored}
+use Rattle.c2_cmd_building.proofs.TheLaws.{a_built_file_is_restored}
 use Rattle.std.proofs.Common.{map, ℕ, List, [], refl, sym, ap, subst, inl, inr}
 use Rattle.std.specs.Prelude.{IfOk, unwrap_or}
 use Rattle.std.proofs.lemmas.Bool.{false≢true}
 use Rattle.c2_base.specs.declared.values.Question.{Question}
-use Rattle.c2_build_plain.specs.Building.{PlanAsks}
-use Rattle.c2_build_collect.specs.Answers as collect
-use Rattle.c2_build_collect.specs.Answers.{embed_effects}
+use Rattle.c2_cmd_building.specs.Building.{PlanAsks}
+use Rattle.c2_cmd_collect.specs.Answers as collect
+use Rattle.c2_cmd_collect.specs.Answers.{embed_effects}
 use Rattle.c2_cmd_collect.specs.Outcomes.{IsEmbedCollectOutcome, IsPlanCollectOutcome}
-use Rattle.c2_build_collect_base.specs.Grounds.{ground_effects}
+use Rattle.c2_cmd_collect.specs.Grounds.{ground_effects}
 use Rattle.c2_collect_spec.specs.Outcomes.{CollectAsks, CollectPlanAsks}
 use Rattle.c2_build_refusals.specs.Stages.{IsDefinitionRefused, IsMediaRefused}
 use Rattle.c2_cmd_building.specs.Outcomes.{IsEmbedOutcome, IsPlanOutcome, IsSampleOutcome}
@@ -21,7 +21,7 @@ use Rattle.c2_cmd_front.specs.Outcomes.{IsEmbedFrontOutcome, IsPlanFrontOutcome}
 use Rattle.c2_cmd_outcome.specs.Reply.{Replies, outcome_of}
 use Rattle.c2_cmd_reading.specs.Outcomes.{IsCompareOutcome, IsDigestOutcome, IsExternalOutcome, IsListOutcome, IsMediaOutcome, IsQuestioned, IsShown, IsValidated}
 use Rattle.c2_rules.specs.Validated.{AreQuestions, CheckAsks}
-use Rattle.c2_sample.specs.Sample.{SampleAsks}
+use Rattle.c2_cmd_building.specs.Sample.{SampleAsks}
 use Rattle.c2_sidecar.specs.Checking.{IsRefusedFile}
 use Rattle.c2_spec.specs.Judges.Panel.{panel_says}
 use Rattle.c2_cmd_strip.specs.Outcomes.{IsStripOutcome}

@@ -1,7 +1,7 @@
 use Rattle.std.proofs.Common.{map}
 use Rattle.c2_spec.specs.Judges.Panel.{panel_says}
 use Rattle.c2_collect_spec.specs.Outcomes.{IsCollectPlanned}
-use Rattle.c2_build_collect_base.specs.Grounds.{ground_effects}
+use Rattle.c2_build_collect.specs.Grounds.{ground_effects}
 use Rattle.c2_cmd_written_spec.specs.Builds.{tbs_outcome}
 use Rattle.c2_cmd_written_spec.proofs.Builds.{build_within}
 use Rattle.c2_cmd_written_spec.proofs.Left.{panel_left, source_left}
