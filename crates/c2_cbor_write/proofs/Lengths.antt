@@ -3,7 +3,7 @@ use Rattle.std.proofs.Common.{◌≡◌, ℕ, ◌+◌, ◌^◌, ◌<◌, List, l
 use Rattle.std.specs.Option.{SomeIff}
 use Rattle.std.specs.declared.alloc.Global.{Global}
 use Rattle.std.proofs.lemmas.List.{length-append}
-use Rattle.c2_spec.specs.Cbor.Item.{bytes, text}
+use Rattle.c2_spec.specs.Cbor.Item.{bytes}
 use Rattle.c2_spec.specs.Cbor.View.{view, items_view, pairs_view}
 use Rattle.c2_spec.specs.Cbor.Deterministic.{shortest_head, preferred, preferred_items, preferred_pairs}
 use Rattle.c2_spec.specs.declared.cbor.Cbor.{Cbor, List as List', Bytes, Text, Map, Tag, the_lemmas}

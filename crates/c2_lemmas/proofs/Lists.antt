@@ -1,5 +1,5 @@
 -- Lists: their lengths, and parts of them.
-use Rattle.std.proofs.Common.{Bool, List, Option, Some, [], ap, arith, bytes_eq, cond, drop, false, get_or, inl, inr, is_some, length, map, min, refl, slice_get, suc, sym, take, true, zero, ℕ, ⊎_elim, ◌++◌, ◌+◌, ◌-◌, ◌<◌, ◌||◌, ◌∙◌, ◌∷◌, ◌≡◌, ◌≤◌}
+use Rattle.std.proofs.Common.{Bool, List, Option, Some, [], ap, arith, bytes_eq, cond, drop, false, get_or, inl, inr, is_some, length, map, min, refl, slice_get, suc, sym, take, true, zero, ℕ, ⊎_elim, ◌++◌, ◌+◌, ◌<◌, ◌||◌, ◌∙◌, ◌∷◌, ◌≡◌, ◌≤◌}
 use Rattle.std.proofs.lemmas.Bool.{cases_lt}
 use Rattle.std.proofs.lemmas.List.{drop-take, drop_all, drop_more, take-append-drop, take-take, take_all}
 use Rattle.std.proofs.lemmas.Slice.Eq.{bytes_eq-Decides}

@@ -1,7 +1,7 @@
 -- Which redaction is refused, by what is looked up.
 use Rattle.std.proofs.Common.{◌≡◌, ℕ, zero, suc, ◌+◌, ◌<◌, ◌≤◌, Bool, true, false, cond, not, ◌&&◌, List, [], ◌∷◌, ◌++◌, length, get_or, take, drop, Option, Some, None, is_some, slice_get, option_copied, option_map, refl, sym, ap, ◌∙◌, arith, Result, Ok, Err, IfOk}
 use Rattle.std.specs.Prelude.{bytes_eq, filter, find}
-use Rattle.std.specs.List.{list_any, position_from}
+use Rattle.std.specs.List.{list_any}
 use Rattle.std.specs.Prelude.{position, unwrap_or}
 use Rattle.std.proofs.lemmas.Iterator.Adapters.{position_from-zero}
 use Rattle.std.specs.Option.{option_or}

@@ -1,6 +1,5 @@
 -- The places of manifests by their labels.
 use Rattle.std.proofs.Common.{◌≡◌, ℕ, ◌<◌, Bool, List, length, map, take, Option, Some, position, sym, ap, ◌∙◌, arith}
-use Rattle.std.specs.List.{position_from}
 use Rattle.std.proofs.lemmas.Iterator.Adapters.{position_from-zero}
 use Rattle.std.proofs.lemmas.List.{length-take-le, length-map}
 use Rattle.std.proofs.Math.Seq.{take-length}

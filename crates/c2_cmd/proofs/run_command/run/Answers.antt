@@ -1,5 +1,4 @@
 use Rattle.std.proofs.Common.{◌∙◌, ap, sym, inl, inr, refl, subst, take, string_bytes, arith}
-use Rattle.std.specs.Prelude.{Err}
 use Rattle.c2_base.proofs.Growing.{grows_then}
 use Rattle.c2_cmd_outcome.specs.Status.{HasNoReply}
 use Rattle.c2_cmd_outcome.specs.Left.{state_of}

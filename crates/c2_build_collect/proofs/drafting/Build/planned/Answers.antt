@@ -1,5 +1,4 @@
 use Rattle.std.proofs.Common.{map, subst, sym, ℕ, ◌∙◌}
-use Rattle.std.specs.Prelude.{Err}
 use Rattle.std.proofs.lemmas.Result.{IfOk-weaker}
 use Rattle.c2_spec.specs.Judges.Panel.{panel_says}
 use Rattle.c2_new_file_spec.specs.Store.{new_alg}
