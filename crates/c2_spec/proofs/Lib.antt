@@ -11,6 +11,7 @@ pub mod BmffTests
 pub mod BoxParts
 pub mod BoxesOfManifests
 pub mod CborEach
+pub mod CborHeadLengths
 mod CborRows
 pub mod CborShared
 mod ClaimRows
