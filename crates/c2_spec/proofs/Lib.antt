@@ -19,7 +19,9 @@ pub mod ClaimVersions
 pub mod Containers
 mod CoverRows
 pub mod Digests
+pub mod DistinctLabels
 pub mod GivenLabels
+pub mod JpegLocated
 mod JpegRows
 pub mod JumbfBoxes
 pub mod JumbfChildren
@@ -29,6 +31,7 @@ pub mod JumbfNoFault
 pub mod JumbfOneFault
 pub mod JumbfOneTree
 pub mod JumbfParts
+pub mod JumbfRefusals
 pub mod JumbfRows
 pub mod Kept
 pub mod LabelsOfManifests
