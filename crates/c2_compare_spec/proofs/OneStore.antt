@@ -17,7 +17,7 @@ use Rattle.c2_rules.specs.Readings.{IsMessageOf, ReadBox, IsReadBox, Reading, Is
 use Rattle.c2_rules.specs.Validated.{IsFileReading, IsOpenedAnswer, IsAnswer, OpenedAsks, CheckAsks}
 use Rattle.c2_rules.specs.declared.answer.Answer.{Answer}
 use Rattle.c2_rules.specs.declared.parsed.Parsed.{Parsed}
-use Rattle.c2_rules.proofs.OneMedia.{media_once}
+use Rattle.c2_rules.proofs.OneMedia.{one_file_reading}
 use Rattle.c2_rules.proofs.OpenedStore.{same_here}
 use Rattle.c2_rules.specs.Opened.{IsOpenedOnce}
 use Rattle.c2_compare_spec.specs.Accepted.{IsOpenedAs}
@@ -94,16 +94,6 @@ one_store m ms s t p q =
     record { readings = rs; binding = v }) each
     (one_bound m (active_in t.readings) s.binding t.binding bound q.binding)
 
--- ---- the media file
-
--- the store of a file is read in one way
-one_file_reading : (file : List ℕ) (t : Tree) (a b : StoreReading) → IsFileReading file t a
-    → IsFileReading file t b → a ≡ b
-one_file_reading file t a b p q =
-    let media : q.media ≡ p.media = media_once file q.media p.media q.is_media p.is_media in
-    one_store p.media (manifests_of t) a b p.reads
-    (subst (λ m. IsStoreReading m (manifests_of t) b) media q.reads)
-
 -- ---- one opening
 
 -- what is here from one place is here from no other
@@ -128,7 +118,7 @@ one_opened_as file once s t o p =
     let e = once (here o.start o.len o.tree) (here p.start p.len p.tree) o.is_opened p.is_opened in
     let tree : p.tree ≡ o.tree = sym (same_here o.start o.len p.start p.len o.tree p.tree e) in
     record {
-      store = one_file_reading file o.tree s t o.reads (subst (λ u. IsFileReading file u t) tree p.reads);
+      store = one_file_reading one_store file o.tree s t o.reads (subst (λ u. IsFileReading file u t) tree p.reads);
       start = one_start o.start o.len p.start p.len o.tree p.tree e;
       len = one_len o.start o.len p.start p.len o.tree p.tree e;
     }
@@ -140,7 +130,7 @@ one_opened_answer : (hash : Alg → List ℕ → List ℕ) (said : Question → 
 one_opened_answer hash said file (refused reason number) a b p q = p ∙ sym q
 one_opened_answer hash said file absent a b p q = p ∙ sym q
 one_opened_answer hash said file (here start len t) a b p q =
-    p.2 ∙ ap (store_answer hash said (length file) start len) (one_file_reading file t p.0 q.0 p.1 q.1)
+    p.2 ∙ ap (store_answer hash said (length file) start len) (one_file_reading one_store file t p.0 q.0 p.1 q.1)
     ∙ sym q.2
 
 -- a file that is opened as one thing has one answer

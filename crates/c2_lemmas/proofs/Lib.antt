@@ -4,3 +4,4 @@ pub mod Lists
 pub mod Numbers
 pub mod Options
 pub mod Results
+pub mod Stages
