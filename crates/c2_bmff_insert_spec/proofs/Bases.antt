@@ -15,7 +15,7 @@ use Rattle.c2_spec.proofs.BmffOneStore.{split_once, store_or_none}
 use Rattle.c2_spec.proofs.BmffSizes.{bytes_size}
 use Rattle.c2_bmff_insert_spec.proofs.Placing.{begins_list, bytes_more, first_is, forms_append, forms_back, forms_front, left_is, one_more}
 use Rattle.c2_lemmas.proofs.Each.{each_append}
-use Rattle.c2_spec.proofs.BmffOneOutcome.{others_same}
+use Rattle.c2_lemmas.proofs.Parts.{others_same}
 
 -- ---- a freed box
 

@@ -14,7 +14,7 @@ use Rattle.c2_rules.proofs.ListLemmas.{from_any}
 use Rattle.c2_rules.proofs.ReachLemmas.{place_is}
 use Rattle.c2_chain_spec.specs.Joined.{place_in}
 use Rattle.c2_chain_spec.specs.Rooted.{last_roots}
-use Rattle.c2_chain_spec.proofs.Places.{get_left, member_of, picked_at, to_right}
+use Rattle.c2_chain_spec.proofs.Places.{get_left, picked_at, to_right}
 use Rattle.c2_new_file_spec.specs.Manifests.{is_super, supers_in}
 use Rattle.c2_new_file_spec.specs.Store.{NamedManifest}
 use Rattle.c2_new_file_spec.specs.Written.{IsStoreBox}
@@ -30,7 +30,7 @@ use Rattle.c2_collect_spec.proofs.Stores.{label_there}
 use Rattle.c2_collect_spec.proofs.Zips.{Reads, ZipAt, all_picked, are_supers, higher, reads_zip, then_supers, zip_at}
 use Rattle.c2_build_collect_base.specs.Steps.{left_in}
 use Rattle.c2_lemmas.proofs.Bools.{and_true, both_true}
-use Rattle.c2_lemmas.proofs.Each.{at_contains, contains_at, zip_length}
+use Rattle.c2_lemmas.proofs.Each.{at_contains, contains_at, member_of, zip_length}
 use Rattle.c2_lemmas.proofs.Options.{some_at}
 use Rattle.c2_new_content_spec.proofs.OverWhole.{last_place}
 use Rattle.c2_new_file_spec.proofs.Taken.{redacted_super}

@@ -4,13 +4,13 @@ use Rattle.c2_cbor_spec.proofs.TheLaws.{each_list_is_an_item_or_not_one as read_
 use Rattle.c2_read_manifests.proofs.Existing.{each_manifest}
 use Rattle.c2_read_manifests.proofs.Labels.{labels_differ}
 use Rattle.c2_read_manifests.proofs.Messages.{each_question}
-use Rattle.c2_read_manifests.proofs.OneReading.{one_list_of_readings, one_reading, one_store}
 use Rattle.c2_read_manifests.proofs.ReadClaims.{claim_read, question_read}
 use Rattle.c2_read_manifests.proofs.SomeReading.{item_or, readings_or}
 use Rattle.c2_read_manifests.proofs.Unique.{one_claim as one_claim_by, one_list_of_claims as one_list_of_claims_by, one_question as one_question_by}
 use Rattle.c2_read_manifests.specs.Existing.{IsHeld}
 use Rattle.c2_read_manifests.specs.Held.{IsHeldManifest}
 use Rattle.c2_rules.proofs.OneMedia.{one_file_reading}
+use Rattle.c2_rules.proofs.OneReading.{one_list_of_readings, one_reading, one_store}
 use Rattle.c2_rules.specs.Binding.{IsItemOf, Media}
 use Rattle.c2_rules.specs.Chains.{LabelsDiffer}
 use Rattle.c2_rules.specs.CheckList.{IsStoreReading, StoreReading}

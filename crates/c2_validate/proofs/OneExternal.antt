@@ -22,8 +22,9 @@ use Rattle.c2_rules.specs.declared.answer.Failing.{Failing}
 use Rattle.c2_validate.specs.External.{ExternalAsks, IsExternalAnswer, IsListAnswer, IsLocatedAnswer, IsSameAnswer, IsStoreAnswer, IsExternalStore, ListAsks, LocatedAsks}
 use Rattle.c2_validate.specs.declared.external.External.{External}
 use Rattle.c2_validate.specs.declared.external.External.TheVariants.{Of}
-use Rattle.c2_validate.proofs.OneCheck.{one_opened_asks, one_tree_answer}
+use Rattle.c2_validate.proofs.OneCheck.{one_tree_answer}
 use Rattle.c2_lemmas.proofs.Numbers.{one_after}
+use Rattle.c2_rules.proofs.OneReading.{one_opened_asks}
 
 -- ---- one answer
 

@@ -1,11 +1,13 @@
 -- What is read of a store is one.
 use Rattle.std.proofs.Common.{◌≡◌, ℕ, Bool, true, false, List, Option, Some, None, Result, Ok, IsErr, MatchBool, is_err, refl, sym, ap, ap₂, ◌∙◌, subst}
+use Rattle.c2_base.specs.declared.values.Question.{Question}
 use Rattle.c2_spec.specs.C2pa.Assertion.{ingredient_of}
 use Rattle.c2_spec.specs.Cbor.Item.{Item}
 use Rattle.c2_spec.specs.C2pa.Claim.{claim_of}
-use Rattle.c2_spec.specs.Cbor.Fields.{HasItem}
-use Rattle.c2_spec.specs.C2pa.Manifest.{Manifest, Superbox, claim_bytes, claim_version_of}
+use Rattle.c2_spec.specs.C2pa.Manifest.{Manifest, Superbox, claim_bytes, claim_version_of, manifests_of}
 use Rattle.c2_spec.specs.C2pa.Sign1.{SignParts}
+use Rattle.c2_spec.specs.Jumbf.Tree.{Tree}
+use Rattle.c2_spec.specs.Located.{Opening, refused, absent, here}
 use Rattle.c2_spec.specs.declared.assertion.Ingredient.{Ingredient}
 use Rattle.c2_spec.specs.declared.claim.Claim.{Claim}
 use Rattle.c2_rules.specs.Binding.{Binding, Media, IsItemOf, IsLabelledBinding, binding_label, binding_payload}
@@ -13,18 +15,15 @@ use Rattle.c2_spec.specs.declared.assertion.FieldError.{FieldError}
 use Rattle.c2_rules.specs.CheckList.{StoreReading, IsStoreReading, HasBindingOf, active_in}
 use Rattle.c2_rules.specs.Ingredients.{is_ingredient, box_version}
 use Rattle.c2_rules.specs.Readings.{IsParsed, IsMessageOf, ReadBox, IsReadBox, Reading, IsReading, AreReadings, signature_item}
+use Rattle.c2_rules.specs.Validated.{OpenedAsks}
 use Rattle.c2_rules.specs.declared.parsed.Parsed.{Parsed}
 use Rattle.c2_rules.specs.declared.parsed.Parsed.TheVariants.{NoItem, NoForm, Value}
 use Rattle.c2_spec.proofs.OneMessage.{same_message}
-use Rattle.c2_cbor_spec.proofs.PlainBack.{one_item}
+use Rattle.c2_cbor_spec.proofs.PlainBack.{one_item, same_item}
 use Rattle.c2_lemmas.proofs.Each.{one_list}
 use Rattle.c2_rules.proofs.OneAnswer.{one_labelled}
 
 -- ---- an item
-
--- bytes are one item
-same_item : (s : List ℕ) (v w : Item) → HasItem s v → HasItem s w → v ≡ w
-same_item s v w p q = one_item v w s p.spelled q.spelled
 
 -- a payload has one item, or none
 pub one_item_of : (o : Option (List ℕ)) (a b : Option Item) → IsItemOf o a → IsItemOf o b → a ≡ b
@@ -68,14 +67,14 @@ one_parsed {A} {E} read (Some s) (Value x) (Value y) p q =
 -- ---- a message
 
 -- a payload is one message, or none
-pub one_message : (o : Option (List ℕ)) (a b : Option SignParts) → IsMessageOf o a → IsMessageOf o b → a ≡ b
-one_message None None None p q = refl
-one_message None None (Some y) p q = absurd q
-one_message None (Some x) b p q = absurd p
-one_message (Some s) None None p q = refl
-one_message (Some s) None (Some y) p q = absurd (p y q)
-one_message (Some s) (Some x) None p q = absurd (q x p)
-one_message (Some s) (Some x) (Some y) p q = ap Some (same_message one_item s x y p q)
+pub one_message_of : (o : Option (List ℕ)) (a b : Option SignParts) → IsMessageOf o a → IsMessageOf o b → a ≡ b
+one_message_of None None None p q = refl
+one_message_of None None (Some y) p q = absurd q
+one_message_of None (Some x) b p q = absurd p
+one_message_of (Some s) None None p q = refl
+one_message_of (Some s) None (Some y) p q = absurd (p y q)
+one_message_of (Some s) (Some x) None p q = absurd (q x p)
+one_message_of (Some s) (Some x) (Some y) p q = ap Some (same_message one_item s x y p q)
 
 -- ---- boxes and manifests
 
@@ -103,7 +102,7 @@ one_reading m r s p q =
     ∙ ap (λ (x : Parsed Claim). reading s.manifest x r.message r.boxes)
     (one_parsed (claim_of (claim_version_of m.claims)) (claim_bytes m.claims) r.claim s.claim p.claim q.claim)
     ∙ ap (λ (x : Option SignParts). reading s.manifest s.claim x r.boxes)
-    (one_message (signature_item m) r.message s.message p.message q.message)
+    (one_message_of (signature_item m) r.message s.message p.message q.message)
     ∙ ap (λ (x : List ReadBox). reading s.manifest s.claim s.message x)
     (one_list IsReadBox one_box m.assertions r.boxes s.boxes p.boxes q.boxes)
 
@@ -114,10 +113,10 @@ one_list_of_readings ms rs ss p q = one_list IsReading one_reading ms rs ss p q
 -- ---- the binding
 
 -- an active manifest has one binding
-one_held : (m : Media) (o : Option Reading) (a b : Option (Result Binding FieldError)) → HasBindingOf m o a
+pub one_bound : (m : Media) (o : Option Reading) (a b : Option (Result Binding FieldError)) → HasBindingOf m o a
     → HasBindingOf m o b → a ≡ b
-one_held m None a b p q = p ∙ sym q
-one_held m (Some r) a b p q =
+one_bound m None a b p q = p ∙ sym q
+one_bound m (Some r) a b p q =
     let item : q.item ≡ p.item = one_item_of (binding_payload r) q.item p.item q.is_item p.is_item in
     one_labelled m (binding_label r) p.item a b p.is (subst (λ v. IsLabelledBinding m (binding_label r) v b) item q.is)
 
@@ -126,7 +125,17 @@ pub one_store : (m : Media) (ms : List Manifest) (s t : StoreReading) → IsStor
     → s ≡ t
 one_store m ms s t p q =
     let each : s.readings ≡ t.readings = one_list_of_readings ms s.readings t.readings p.each q.each in
-    let here : HasBindingOf m (active_in t.readings) s.binding =
+    let bound : HasBindingOf m (active_in t.readings) s.binding =
     subst (λ (rs : List Reading). HasBindingOf m (active_in rs) s.binding) each p.binding in
     ap₂ (λ (rs : List Reading) (v : Option (Result Binding FieldError)). record { readings = rs; binding = v }) each
-    (one_held m (active_in t.readings) s.binding t.binding here q.binding)
+    (one_bound m (active_in t.readings) s.binding t.binding bound q.binding)
+
+-- ---- questions
+
+-- what is asked over one opening is one list
+pub one_opened_asks : (asks : List Reading → List Question) (o : Opening Tree) (ps qs : List Question)
+    → OpenedAsks asks o ps → OpenedAsks asks o qs → ps ≡ qs
+one_opened_asks asks (refused reason number) ps qs p q = p ∙ sym q
+one_opened_asks asks absent ps qs p q = p ∙ sym q
+one_opened_asks asks (here start len t) ps qs p q =
+    p.2 ∙ ap asks (one_list_of_readings (manifests_of t) p.0 q.0 p.1 q.1) ∙ sym q.2
