@@ -1,6 +1,6 @@
 -- The causes of errors, from one step of a build that collects to the next.
 use Rattle.std.proofs.Common.{◌≡◌, ◌⊎◌, inl, inr, ℕ, subst}
-use Rattle.c2_build_refusals.proofs.Doing.{DoesNoMore, more_cause, more_read}
+use Rattle.c2_build_refusals.proofs.Doing.{DoesNoMore, message_step, more_cause}
 use Rattle.c2_build_refusals.proofs.Outside.{read_cause}
 use Rattle.c2_build_refusals.specs.Kinds.{ErrorKind, IsReadKind, IsSourceCause, message_effects}
 use Rattle.c2_build_collect_base.specs.Grounds.{ground_effects}
@@ -13,18 +13,12 @@ ground_prepares =
     more_cause ground_effects prepare_effects
     (record { message = λ h. tt; judges = λ h. h; writes = λ h. h; tables = λ h. h; older = λ h. h; other = λ h. h })
 
--- what looks at a message is done before a file is written
-pub message_prepares : (m n : ℕ) (k : ErrorKind) → IsReadKind message_effects m n k → IsReadKind prepare_effects m n k
-message_prepares =
-    more_read message_effects prepare_effects
-    (record { message = λ h. h; judges = λ h. tt; writes = λ h. h; tables = λ h. h; older = λ h. tt; other = λ h. tt })
-
 -- what looks at a message, and left the count of faults, is done before a file is written
 pub message_stays : (Other : Type 0) (m n : ℕ) (k : ErrorKind) → n ≡ m → IsReadKind message_effects n n k
     → IsSourceCause prepare_effects Other m n k
 message_stays Other m n k same h =
     subst (λ (i : ℕ). IsSourceCause prepare_effects Other i n k) same
-    (read_cause Other prepare_effects n n k (message_prepares n n k h))
+    (read_cause Other prepare_effects n n k (message_step prepare_effects tt n n k h))
 
 -- what is done before a file is written is done by what writes it
 pub prepares : DoesNoMore prepare_effects embed_effects

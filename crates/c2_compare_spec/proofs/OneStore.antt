@@ -1,29 +1,18 @@
 -- A file that is opened as one thing is read as one store, and has one answer.
 use Rattle.std.proofs.Common.{◌≡◌, ℕ, List, length, sym, ap, ◌∙◌, subst}
 use Rattle.c2_base.specs.declared.values.Question.{Question}
-use Rattle.c2_spec.specs.C2pa.Manifest.{manifests_of}
 use Rattle.c2_spec.specs.Jumbf.Tree.{Tree}
 use Rattle.c2_spec.specs.Located.{Opening, refused, absent, here}
 use Rattle.c2_spec.specs.declared.digest.Alg.{Alg}
 use Rattle.c2_spec.specs.declared.panel.Verdict.{Verdict}
-use Rattle.c2_rules.specs.CheckList.{StoreReading, IsStoreReading, store_answer, check_asks}
+use Rattle.c2_rules.specs.CheckList.{StoreReading, store_answer, check_asks}
 use Rattle.c2_rules.specs.Validated.{IsFileReading, IsOpenedAnswer, IsAnswer, OpenedAsks, CheckAsks}
 use Rattle.c2_rules.specs.declared.answer.Answer.{Answer}
-use Rattle.c2_rules.proofs.OneMedia.{media_once}
+use Rattle.c2_rules.proofs.OneMedia.{one_file_reading}
 use Rattle.c2_rules.proofs.OpenedStore.{same_here}
 use Rattle.c2_rules.specs.Opened.{IsOpenedOnce}
 use Rattle.c2_compare_spec.specs.Accepted.{IsOpenedAs}
 use Rattle.c2_rules.proofs.OneReading.{one_opened_asks, one_store}
-
--- ---- the media file
-
--- the store of a file is read in one way
-one_file_reading : (file : List ℕ) (t : Tree) (a b : StoreReading) → IsFileReading file t a
-    → IsFileReading file t b → a ≡ b
-one_file_reading file t a b p q =
-    let media : q.media ≡ p.media = media_once file q.media p.media q.is_media p.is_media in
-    one_store p.media (manifests_of t) a b p.reads
-    (subst (λ m. IsStoreReading m (manifests_of t) b) media q.reads)
 
 -- ---- one opening
 
@@ -49,7 +38,7 @@ one_opened_as file once s t o p =
     let e = once (here o.start o.len o.tree) (here p.start p.len p.tree) o.is_opened p.is_opened in
     let tree : p.tree ≡ o.tree = sym (same_here o.start o.len p.start p.len o.tree p.tree e) in
     record {
-      store = one_file_reading file o.tree s t o.reads (subst (λ u. IsFileReading file u t) tree p.reads);
+      store = one_file_reading one_store file o.tree s t o.reads (subst (λ u. IsFileReading file u t) tree p.reads);
       start = one_start o.start o.len p.start p.len o.tree p.tree e;
       len = one_len o.start o.len p.start p.len o.tree p.tree e;
     }
@@ -61,7 +50,7 @@ one_opened_answer : (hash : Alg → List ℕ → List ℕ) (said : Question → 
 one_opened_answer hash said file (refused reason number) a b p q = p ∙ sym q
 one_opened_answer hash said file absent a b p q = p ∙ sym q
 one_opened_answer hash said file (here start len t) a b p q =
-    p.2 ∙ ap (store_answer hash said (length file) start len) (one_file_reading file t p.0 q.0 p.1 q.1)
+    p.2 ∙ ap (store_answer hash said (length file) start len) (one_file_reading one_store file t p.0 q.0 p.1 q.1)
     ∙ sym q.2
 
 -- a file that is opened as one thing has one answer

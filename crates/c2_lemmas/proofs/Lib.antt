@@ -7,3 +7,4 @@ pub mod Numbers
 pub mod Options
 pub mod Parts
 pub mod Results
+pub mod Stages

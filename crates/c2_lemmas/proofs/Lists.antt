@@ -7,9 +7,9 @@ use Rattle.std.proofs.lemmas.Slice.Eq.{bytes_eq-Decides}
 use Rattle.std.specs.List.{list_any, position_from}
 
 -- from a place on a list begins with the member there
-pub drop_first : (all : List (List ℕ)) (n : ℕ) (label : List ℕ) → n < length all → label ≡ get_or all n label
-    → drop n all ≡ label ∷ drop (n + 1) all
-drop_first all n label l e = drop_more all n label l ∙ ap (λ (x : List ℕ). x ∷ drop (n + 1) all) (sym e)
+pub drop_first : {X : Type 0} (all : List X) (n : ℕ) (x : X) → n < length all → x ≡ get_or all n x
+    → drop n all ≡ x ∷ drop (n + 1) all
+drop_first {X} all n x l e = drop_more all n x l ∙ ap (λ (y : X). y ∷ drop (n + 1) all) (sym e)
 
 -- no more than all of a list is passed over
 pub drop_most : (n : ℕ) (xs : List ℕ) → drop (min n (length xs)) xs ≡ drop n xs

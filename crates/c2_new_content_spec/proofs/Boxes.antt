@@ -30,7 +30,7 @@ use Rattle.c2_definition.specs.declared.types.NewAssertion.{NewAssertion}
 use Rattle.c2_new_file_spec.specs.Store.{Content, NewIngredient, ingredient_assertion, new_alg, new_assertions, target_ref, written_ingredient}
 use Rattle.c2_new_file_spec.specs.Unbound.{IsKnownLabel}
 use Rattle.c2_new_file_spec.specs.Written.{AreIngredients, IsIngredientLabel, LabelsApart, written_assertion}
-use Rattle.c2_new_file_spec.proofs.Conditions.{Holds}
+use Rattle.c2_rules.proofs.Conditions.{Holds}
 use Rattle.c2_new_file_spec.proofs.Ingredients.{AreLabelled, good_label}
 use Rattle.c2_new_file_spec.proofs.Labels.{IsLabelText, new_label}
 use Rattle.c2_new_file_spec.proofs.WrittenStore.{IsNew, own_assertions}

@@ -14,7 +14,7 @@ use Rattle.c2_spec.specs.Reason.{media_refusal}
 use Rattle.c2_spec.specs.declared.reason.Reason.{Reason}
 use Rattle.c2_spec.specs.declared.reason.Reason.TheVariants as why
 use Rattle.c2_spec.specs.declared.reason.Refusal.{Refusal}
-use Rattle.c2_spec.proofs.Containers.{never_both}
+use Rattle.c2_spec.proofs.Containers.{as_bmff, never_both, of_bmff}
 use Rattle.c2_spec.proofs.JpegLocated.{of_jpeg}
 use Rattle.c2_bmff_boxes.specs.Roots.{AreRootsOf}
 use Rattle.c2_bmff_rows.specs.Rows.{rows_of}
@@ -26,7 +26,6 @@ use Rattle.c2_strip.specs.Endings.{is_last}
 use Rattle.c2_strip.specs.Stripping.{IsMiddle, StripsTo}
 use Rattle.c2_strip.specs.declared.error.Stripped.{Stripped}
 use Rattle.c2_strip.specs.declared.error.Stripped.TheVariants.{Done, NoStore, Refused, Middle}
-use Rattle.c2_strip.proofs.Containers.{as_bmff, of_bmff}
 use Rattle.c2_strip.proofs.Endings.{last_is}
 use Rattle.c2_lemmas.proofs.Options.{same_some}
 

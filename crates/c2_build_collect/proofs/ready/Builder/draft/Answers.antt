@@ -12,12 +12,13 @@ use Rattle.c2_collect_spec.proofs.SomeOutcome.{defined_of}
 use Rattle.c2_build_collect_base.specs.Grounds.{opening_of}
 use Rattle.c2_build_refusals.specs.Kinds.{WithoutFault, message_effects, no_effects}
 use Rattle.c2_build_refusals.specs.Stages.{IsDefinitionRefused, IsMessageRefused, IsMessageStage}
+use Rattle.c2_build_refusals.proofs.Doing.{message_step}
 use Rattle.c2_build_refusals.proofs.Inputs.{not_both_definitions, not_both_media}
 use Rattle.c2_build_refusals.proofs.Judged.{hears_as, hears_none, quiet_unheard, read_unheard}
 use Rattle.c2_build_refusals.proofs.Outside.{alone, on_any, outside_map, plain_cause, quiet_cause, read_cause, reads_among, reads_earlier}
 use Rattle.c2_build_collect.specs.Answers.{prepare_effects}
 use Rattle.c2_build_collect.specs.Steps.{IsBuildFor}
-use Rattle.c2_build_collect.proofs.Causes.{first_or_third, message_prepares}
+use Rattle.c2_build_collect.proofs.Causes.{first_or_third}
 use Rattle.c2_build_collect.proofs.Due.{definition_told, message_told, not_accepted, other_told, undefined, unsigned, untold}
 use Rattle.c2_build_collect.proofs.Stages.{build_next, defined_as, definition_error, media_error, message_as, message_error, opened_as, refused_first, refused_next}
 use Rattle.c2_build_collect.proofs.Unasked.{embedded_asks, refused_embed, undefined_embed, unsigned_embed}
@@ -163,16 +164,23 @@ returns-in-Err-read_message_file-clause-sources g c = record {
   media =
       reads_earlier prepare_effects c.args.media.now c.args.media.now _ _ (Err c.in-Err-read_message_file.error)
       (stays_as_it_was _ _ _ c.args.media.now) refl (alone (λ rose. inr (inl rose)))
-      (read_cause _ prepare_effects _ _ _ (message_prepares _ _ _ c.in-Err-read_message_file.ensures.cause));
+      (read_cause _ prepare_effects _ _ _
+      (message_step prepare_effects tt _ _ _ c.in-Err-read_message_file.ensures.cause));
   definition = reads_earlier prepare_effects c.args.definition.now c.read_definition_file.new.file _ _ (Err c.in-Err-read_message_file.error) c.in-Ok-read_definition_file.ensures.stays c.in-Ok-read_definition_file.ensures.count (alone (λ rose. inr (inl rose)))
-      (read_cause _ prepare_effects _ _ _ (message_prepares _ _ _ c.in-Err-read_message_file.ensures.cause));
-  message =
-      record
-      { stays = c.in-Err-read_message_file.ensures.stays; quiet = tt; cause = read_cause _ prepare_effects _ _ _ (message_prepares _ _ _ c.in-Err-read_message_file.ensures.cause) };
+      (read_cause _ prepare_effects _ _ _
+      (message_step prepare_effects tt _ _ _ c.in-Err-read_message_file.ensures.cause));
+  message = record {
+    stays = c.in-Err-read_message_file.ensures.stays;
+    quiet = tt;
+    cause =
+        read_cause _ prepare_effects _ _ _
+        (message_step prepare_effects tt _ _ _ c.in-Err-read_message_file.ensures.cause);
+  };
   other =
       reads_earlier prepare_effects c.args.other.now c.args.other.now _ _ (Err c.in-Err-read_message_file.error)
       (stays_as_it_was _ _ _ c.args.other.now) refl (alone (λ rose. inr (inr rose)))
-      (read_cause _ prepare_effects _ _ _ (message_prepares _ _ _ c.in-Err-read_message_file.ensures.cause));
+      (read_cause _ prepare_effects _ _ _
+      (message_step prepare_effects tt _ _ _ c.in-Err-read_message_file.ensures.cause));
 }
 
 pub returns-in-Err-read_message_file-clause-panel : goal.returns-in-Err-read_message_file-clause-panel

@@ -7,9 +7,10 @@ use Rattle.c2_new_front_spec.specs.Outcomes.{IsBmffStage, IsMadeIn, IsMadeOver, 
 use Rattle.c2_new_front_spec.specs.Outcomes as front
 use Rattle.c2_build_refusals.specs.Kinds.{WithoutFault}
 use Rattle.c2_build_refusals.specs.Stages.{IsMessageStage}
+use Rattle.c2_build_refusals.proofs.Doing.{message_step}
 use Rattle.c2_build_refusals.proofs.Inputs.{not_both_definitions, not_both_media, told_where_both, told_where_due}
 use Rattle.c2_build_refusals.proofs.Outside.{alone, on_any, outside_map, plain_cause, quiet_cause, read_cause, reads_earlier}
-use Rattle.c2_build_front.proofs.Causes.{message_prepares, reads_in, results_in}
+use Rattle.c2_build_front.proofs.Causes.{reads_in, results_in}
 use Rattle.c2_build_front.proofs.Drafts.{ready_next}
 use Rattle.c2_build_front.proofs.Sized.{has_size}
 use Rattle.c2_build_front.proofs.Stages.{defined_as, definition_error, media_error, message_as, message_error, opened_as, refused_first, refused_next}
@@ -112,12 +113,18 @@ returns-in-Err-read_message_file-clause-sources g c = record {
   media =
       reads_earlier prepare_effects c.args.media.now c.args.media.now _ _ (Err c.in-Err-read_message_file.error)
       (stays_as_it_was _ _ _ c.args.media.now) refl (alone inr)
-      (read_cause _ prepare_effects _ _ _ (message_prepares _ _ _ c.in-Err-read_message_file.ensures.cause));
+      (read_cause _ prepare_effects _ _ _
+      (message_step prepare_effects tt _ _ _ c.in-Err-read_message_file.ensures.cause));
   definition = reads_earlier prepare_effects c.args.definition.now c.read_definition_file.new.file _ _ (Err c.in-Err-read_message_file.error) c.in-Ok-read_definition_file.ensures.stays c.in-Ok-read_definition_file.ensures.count (alone inr)
-      (read_cause _ prepare_effects _ _ _ (message_prepares _ _ _ c.in-Err-read_message_file.ensures.cause));
-  message =
-      record
-      { stays = c.in-Err-read_message_file.ensures.stays; quiet = tt; cause = read_cause _ prepare_effects _ _ _ (message_prepares _ _ _ c.in-Err-read_message_file.ensures.cause) };
+      (read_cause _ prepare_effects _ _ _
+      (message_step prepare_effects tt _ _ _ c.in-Err-read_message_file.ensures.cause));
+  message = record {
+    stays = c.in-Err-read_message_file.ensures.stays;
+    quiet = tt;
+    cause =
+        read_cause _ prepare_effects _ _ _
+        (message_step prepare_effects tt _ _ _ c.in-Err-read_message_file.ensures.cause);
+  };
 }
 
 -- ---- all inputs are read, and then comes what is behind them

@@ -1,5 +1,6 @@
 use Rattle.c2_opening.proofs.TheLaws.{one_opening_file}
 use Rattle.c2_definition.proofs.TheLaws.{each_definition_is_read_one_way_one}
+use Rattle.c2_lemmas.proofs.Stages.{stage_value}
 use Rattle.c2_new_signature.proofs.TheLaws.{each_message_is_accepted_or_refused_for_one_test}
 use Rattle.std.proofs.Common.{List, inl, inr, map, refl, subst, sym, ℕ}
 use Rattle.std.specs.Prelude.{Err, Ok}
@@ -8,14 +9,15 @@ use Rattle.c2_spec.specs.Judges.Panel.{panel_says}
 use Rattle.c2_calls_spec.proofs.SourceLemmas.{reads_nothing, stays_as_it_was}
 use Rattle.c2_build_refusals.specs.Kinds.{WithoutFault, message_effects, no_effects}
 use Rattle.c2_build_plain.specs.Building.{IsEmbeddedOver}
+use Rattle.c2_definition.specs.DefinitionFile.{IsDefinition}
 use Rattle.c2_build_refusals.specs.Stages.{IsDefinitionStage, IsMediaStage, IsMessageStage}
+use Rattle.c2_build_refusals.specs.declared.error.BuildError.TheVariants.{BadDefinition}
 use Rattle.c2_build_plain.specs.Steps.{IsBuildFor}
+use Rattle.c2_build_refusals.proofs.Doing.{message_step}
 use Rattle.c2_build_refusals.proofs.Outside.{alone, on_any, plain_cause, quiet_cause, read_cause, reads_among, reads_earlier}
 use Rattle.c2_build_refusals.proofs.Stages.{comes_first, comes_next}
 use Rattle.c2_build_refusals.proofs.Judged.{hears_as, hears_none, quiet_unheard, read_unheard}
 use Rattle.c2_build_refusals.proofs.Inputs.{not_both_definitions, not_both_media, told_where_both, told_where_due}
-use Rattle.c2_build_plain.proofs.Causes.{message_prepares}
-use Rattle.c2_build_plain.proofs.NewFile.{defined_of}
 use Rattle.c2_build_plain.proofs.NewStores.{build_next}
 use Rattle.c2_build_plain.proofs.Unasked.{embedded_asks, refused_embed, undefined_embed, unsigned_embed}
 use Rattle.c2_build_plain.specs.Answers.{prepare_effects}
@@ -129,12 +131,18 @@ returns-in-Err-read_message_file-clause-sources g c = record {
   media =
       reads_earlier prepare_effects c.args.media.now c.args.media.now _ _ (Err c.in-Err-read_message_file.error)
       (stays_as_it_was _ _ _ c.args.media.now) refl (alone inr)
-      (read_cause _ prepare_effects _ _ _ (message_prepares _ _ _ c.in-Err-read_message_file.ensures.cause));
+      (read_cause _ prepare_effects _ _ _
+      (message_step prepare_effects tt _ _ _ c.in-Err-read_message_file.ensures.cause));
   definition = reads_earlier prepare_effects c.args.definition.now c.read_definition_file.new.file _ _ (Err c.in-Err-read_message_file.error) c.in-Ok-read_definition_file.ensures.stays c.in-Ok-read_definition_file.ensures.count (alone inr)
-      (read_cause _ prepare_effects _ _ _ (message_prepares _ _ _ c.in-Err-read_message_file.ensures.cause));
-  message =
-      record
-      { stays = c.in-Err-read_message_file.ensures.stays; quiet = tt; cause = read_cause _ prepare_effects _ _ _ (message_prepares _ _ _ c.in-Err-read_message_file.ensures.cause) };
+      (read_cause _ prepare_effects _ _ _
+      (message_step prepare_effects tt _ _ _ c.in-Err-read_message_file.ensures.cause));
+  message = record {
+    stays = c.in-Err-read_message_file.ensures.stays;
+    quiet = tt;
+    cause =
+        read_cause _ prepare_effects _ _ _
+        (message_step prepare_effects tt _ _ _ c.in-Err-read_message_file.ensures.cause);
+  };
 }
 
 pub returns-in-Err-read_message_file-clause-panel : goal.returns-in-Err-read_message_file-clause-panel
@@ -166,7 +174,8 @@ returns-clause-build g c = record {
       (λ refused. not_both_definitions bytes d read refused) in
       let m = c.in-Ok-read_message_file.ensures.stage message spoken in
       let stage = subst (λ (x : List ℕ). IsMessageStage x message (Ok m.0)) c.as_slice.ensures.value m.1 in
-      let over = c.with_message.ensures.build file known media.0 media.2 (bytes, defined_of bytes d read) in
+      let over = c.with_message.ensures.build file known media.0 media.2
+      (bytes, stage_value BadDefinition (IsDefinition bytes) d read) in
       let own =
       subst
       (λ (p : SignParts). IsBuildFor g.H.Hashing.digest_of file (IsEmbeddedOver g.H.Hashing.digest_of said file media.0 d p) r)
