@@ -1,8 +1,9 @@
 -- Whether the bytes of new assertions are for their content boxes.
-use Rattle.std.proofs.Common.{◌≡◌, ◌↔◌, ℕ, ◌+◌, ◌<◌, Bool, true, false, List, length, drop, get_or, Option, Some, None, refl, sym, ap, subst, ◌∙◌, Result, IfOk, if◌then◌else◌}
+use Rattle.std.proofs.Common.{◌≡◌, ◌↔◌, ℕ, ◌+◌, ◌<◌, Bool, true, false, List, length, drop, get_or, Option, Some, None, refl, sym, ap, subst, ◌∙◌, Result, IfOk, if◌then◌else◌, ◌≤◌, ◌∷◌}
 use Rattle.std.specs.List.{AllByRecursion}
 use Rattle.std.proofs.lemmas.Bool.{iff_false, false_from_ne_true}
 use Rattle.std.proofs.Math.Seq.{drop-length}
+use Rattle.std.proofs.lemmas.List.{drop_all, drop_more}
 use Rattle.serde_json.specs.Data.{Data}
 use Rattle.c2_definition.specs.declared.types.NewAssertion.{NewAssertion}
 use Rattle.c2_base.specs.declared.outside.NoMemory.{NoMemory}
@@ -43,8 +44,10 @@ not_all list i a t lt at so_far told none = (
 )
 
 -- all are
-pub all_done : (list : List NewAssertion) → AllFrom list (length list) → (true ≡ true) ↔ AllByRecursion HasPayload list
-all_done list so_far = (λ e. so_far.1 (subst (AllByRecursion HasPayload) (sym (drop-length list)) tt), λ all. refl)
+pub all_done : (list : List NewAssertion) (i : ℕ) → length list ≤ i → AllFrom list i
+    → (true ≡ true) ↔ AllByRecursion HasPayload list
+all_done list i end so_far =
+    (λ e. so_far.1 (subst (AllByRecursion HasPayload) (sym (drop_all i list end)) tt), λ all. refl)
 
 -- ---- what is told of an object
 
