@@ -1,6 +1,6 @@
 -- The causes of errors, from one step of a build that collects to the next.
 use Rattle.std.proofs.Common.{◌≡◌, ◌⊎◌, inl, inr, ℕ, subst}
-use Rattle.c2_build_refusals.proofs.Doing.{DoesNoMore, message_step, more_cause, more_read}
+use Rattle.c2_build_refusals.proofs.Doing.{DoesNoMore, message_step, more_cause}
 use Rattle.std.specs.Prelude.{Err, IfErr, Ok, Result}
 use Rattle.c2_build_refusals.proofs.Outside.{read_cause}
 use Rattle.c2_build_refusals.specs.Kinds.{ErrorKind, IsMessageCause, IsReadKind, IsSourceCause, kind_of, message_effects}

@@ -1,6 +1,6 @@
 use Rattle.std.proofs.Common.{sym, ap, ◌∙◌, replicate}
 use Rattle.c2_spec.specs.Cbor.Item.{text, bytes}
-use Rattle.c2_spec.specs.Cbor.View.{view, pairs_view}
+use Rattle.c2_spec.specs.Cbor.View.{pairs_view}
 use Rattle.c2_spec.specs.declared.cbor.Cbor.{Bytes, Text}
 use Rattle.c2_sigstruct.proofs.Entries.{then_none}
 use Rattle.c2_sigstruct.proofs.Pushed.{pushed, view-bytes}

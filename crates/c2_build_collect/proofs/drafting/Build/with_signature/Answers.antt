@@ -17,7 +17,7 @@ use Rattle.c2_build_refusals.proofs.Judged.{hears_as, hears_none, read_unheard}
 use Rattle.c2_build_refusals.proofs.Outside.{alone, on_any, outside_map, read_cause, reads_among, reads_earlier}
 use Rattle.c2_build_collect.specs.Answers.{prepare_effects}
 use Rattle.c2_build_collect.specs.Steps.{IsBuildFor, build_of}
-use Rattle.c2_build_collect.proofs.Causes.{message_prepares}
+use Rattle.c2_build_refusals.proofs.Doing.{message_step}
 use Rattle.c2_build_collect.proofs.Due.{definition_told, message_told, not_accepted, other_told, undefined, unsigned, untold}
 use Rattle.c2_build_collect.proofs.Stages.{build_next, defined_as, message_as, message_error, opened_as, refused_first, refused_next}
 use Rattle.c2_build_collect.proofs.Unasked.{embedded_asks, unsigned_embed}
@@ -68,20 +68,20 @@ pub returns-in-Err-clause-media : goal.returns-in-Err-clause-media
 returns-in-Err-clause-media g c =
     reads_earlier prepare_effects c.args.media.now c.args.media.now _ _ (Err c.in-Err.error)
     (stays_as_it_was _ _ _ c.args.media.now) refl (alone inl)
-    (read_cause _ prepare_effects _ _ _ (message_prepares _ _ _ c.in-Err.ensures.cause))
+    (read_cause _ prepare_effects _ _ _ (message_step prepare_effects tt _ _ _ c.in-Err.ensures.cause))
 
 pub returns-in-Err-clause-message : goal.returns-in-Err-clause-message
 returns-in-Err-clause-message g c = record {
   stays = c.in-Err.ensures.stays;
   quiet = tt;
-  cause = read_cause _ prepare_effects _ _ _ (message_prepares _ _ _ c.in-Err.ensures.cause);
+  cause = read_cause _ prepare_effects _ _ _ (message_step prepare_effects tt _ _ _ c.in-Err.ensures.cause);
 }
 
 pub returns-in-Err-clause-other : goal.returns-in-Err-clause-other
 returns-in-Err-clause-other g c =
     reads_earlier prepare_effects c.args.other.now c.args.other.now _ _ (Err c.in-Err.error)
     (stays_as_it_was _ _ _ c.args.other.now) refl (alone inr)
-    (read_cause _ prepare_effects _ _ _ (message_prepares _ _ _ c.in-Err.ensures.cause))
+    (read_cause _ prepare_effects _ _ _ (message_step prepare_effects tt _ _ _ c.in-Err.ensures.cause))
 
 pub returns-in-Err-clause-panel : goal.returns-in-Err-clause-panel
 returns-in-Err-clause-panel g c = λ told_of of.

@@ -1,6 +1,5 @@
 use Rattle.c2_opening.proofs.TheLaws.{one_opening_file}
 use Rattle.std.proofs.Common.{map, refl}
-use Rattle.std.specs.Prelude.{Err}
 use Rattle.c2_spec.specs.Judges.Panel.{panel_says}
 use Rattle.c2_calls_spec.proofs.SourceLemmas.{reads_nothing}
 use Rattle.c2_collect_spec.specs.Outcomes as collect

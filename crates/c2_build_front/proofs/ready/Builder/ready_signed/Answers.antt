@@ -7,7 +7,8 @@ use Rattle.c2_new_front_spec.specs.Outcomes as front
 use Rattle.c2_build_refusals.specs.Kinds.{WithoutFault}
 use Rattle.c2_build_refusals.specs.Stages.{IsMessageStage}
 use Rattle.c2_build_refusals.proofs.Outside.{alone, outside_map, read_cause, reads_earlier}
-use Rattle.c2_build_front.proofs.Causes.{message_prepares, reads_in, results_in}
+use Rattle.c2_build_refusals.proofs.Doing.{message_step}
+use Rattle.c2_build_front.proofs.Causes.{reads_in, results_in}
 use Rattle.c2_build_front.proofs.Drafts.{ready_next}
 use Rattle.c2_build_front.proofs.Stages.{message_as, message_error, refused_first}
 use Rattle.c2_build_front.specs.Answers.{prepare_effects}
@@ -29,12 +30,12 @@ pub returns-in-Err-clause-media : goal.returns-in-Err-clause-media
 returns-in-Err-clause-media g c =
     reads_earlier prepare_effects c.args.media.now c.args.media.now _ _ (Err c.in-Err.error)
     (stays_as_it_was _ _ _ c.args.media.now) refl (alone (λ rose. rose))
-    (read_cause _ prepare_effects _ _ _ (message_prepares _ _ _ c.in-Err.ensures.cause))
+    (read_cause _ prepare_effects _ _ _ (message_step prepare_effects tt _ _ _ c.in-Err.ensures.cause))
 
 pub returns-in-Err-clause-message : goal.returns-in-Err-clause-message
 returns-in-Err-clause-message g c =
     record
-    { stays = c.in-Err.ensures.stays; quiet = tt; cause = read_cause _ prepare_effects _ _ _ (message_prepares _ _ _ c.in-Err.ensures.cause) }
+    { stays = c.in-Err.ensures.stays; quiet = tt; cause = read_cause _ prepare_effects _ _ _ (message_step prepare_effects tt _ _ _ c.in-Err.ensures.cause) }
 
 -- ---- it is read, and then comes what is behind it
 

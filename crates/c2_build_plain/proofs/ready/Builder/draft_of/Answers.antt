@@ -2,6 +2,9 @@ use Rattle.c2_opening.proofs.TheLaws.{one_opening_file}
 use Rattle.c2_definition.proofs.TheLaws.{each_definition_is_read_one_way_one}
 use Rattle.std.proofs.Common.{inl, inr, map, refl}
 use Rattle.std.specs.Prelude.{Err, Ok, Result}
+use Rattle.c2_lemmas.proofs.Stages.{stage_value}
+use Rattle.c2_definition.specs.DefinitionFile.{IsDefinition}
+use Rattle.c2_build_refusals.specs.declared.error.BuildError.TheVariants.{BadDefinition}
 use Rattle.c2_spec.specs.Judges.Panel.{panel_says}
 use Rattle.c2_calls_spec.proofs.SourceLemmas.{reads_then, stays_as_it_was}
 use Rattle.c2_build_drafts.specs.declared.ready.DraftedBuild.{DraftedBuild}
@@ -12,7 +15,6 @@ use Rattle.c2_build_refusals.proofs.Outside.{alone, among_sources, plain_cause, 
 use Rattle.c2_build_refusals.proofs.Stages.{comes_first, comes_next}
 use Rattle.c2_build_refusals.proofs.Judged.{hears_behind, hears_failed, hears_none, read_unheard}
 use Rattle.c2_build_refusals.proofs.Inputs.{not_both_definitions, not_both_media, told_where_both, told_where_due}
-use Rattle.c2_build_plain.proofs.NewFile.{defined_of}
 use Rattle.c2_build_plain.proofs.NewStores.{build_next}
 use Rattle.c2_build_plain.proofs.Unasked.{undefined_embed}
 use Rattle.c2_build_plain.specs.Answers.{prepare_effects}
@@ -77,7 +79,7 @@ returns-in-Ok-draft_signed-clause-build g c = record {
       (λ refused. not_both_definitions bytes d read refused) in
       build_next hash file (IsMediaStage file) _ media.0 r media.1.stage
       (build_next hash file (IsDefinitionStage bytes) (λ x. IsEmbeddedSigned hash said file media.0 x message) d r read
-      (c.in-Ok-draft_signed.ensures.build file known media.0 media.1 (bytes, defined_of bytes d read) message spoken));
+      (c.in-Ok-draft_signed.ensures.build file known media.0 media.1 (bytes, stage_value BadDefinition (IsDefinition bytes) d read) message spoken));
   texts = λ bytes known. c.in-Ok.ensures.texts bytes known;
   fits = c.in-Ok-draft_signed.ensures.fits;
 }
@@ -124,7 +126,7 @@ returns-in-Err-draft_signed-clause-build g c = record {
       (λ refused. not_both_definitions bytes d read refused) in
       build_next hash file (IsMediaStage file) _ media.0 r media.1.stage
       (build_next hash file (IsDefinitionStage bytes) (λ x. IsEmbeddedSigned hash said file media.0 x message) d r read
-      (c.in-Err-draft_signed.ensures.build file known media.0 media.1 (bytes, defined_of bytes d read) message spoken));
+      (c.in-Err-draft_signed.ensures.build file known media.0 media.1 (bytes, stage_value BadDefinition (IsDefinition bytes) d read) message spoken));
   texts = λ bytes known. tt;
   fits = tt;
 }

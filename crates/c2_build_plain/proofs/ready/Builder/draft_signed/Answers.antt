@@ -13,7 +13,7 @@ use Rattle.c2_build_plain.specs.Steps.{IsDraftFor}
 use Rattle.c2_build_refusals.proofs.Outside.{alone, read_cause, reads_among, reads_earlier}
 use Rattle.c2_build_refusals.proofs.Stages.{comes_first}
 use Rattle.c2_build_refusals.proofs.Judged.{hears_as, hears_none, read_unheard}
-use Rattle.c2_build_plain.proofs.Causes.{message_prepares}
+use Rattle.c2_build_refusals.proofs.Doing.{message_step}
 use Rattle.c2_build_plain.proofs.NewStores.{draft_next}
 use Rattle.c2_build_plain.proofs.Unasked.{asks_with, unsigned_with}
 use Rattle.c2_build_plain.specs.Answers.{prepare_effects}
@@ -35,12 +35,12 @@ pub returns-in-Err-clause-media : goal.returns-in-Err-clause-media
 returns-in-Err-clause-media g c =
     reads_earlier prepare_effects c.args.media.now c.args.media.now _ _ (Err c.in-Err.error)
     (stays_as_it_was _ _ _ c.args.media.now) refl (alone (λ rose. rose))
-    (read_cause _ prepare_effects _ _ _ (message_prepares _ _ _ c.in-Err.ensures.cause))
+    (read_cause _ prepare_effects _ _ _ (message_step prepare_effects tt _ _ _ c.in-Err.ensures.cause))
 
 pub returns-in-Err-clause-message : goal.returns-in-Err-clause-message
 returns-in-Err-clause-message g c =
     record
-    { stays = c.in-Err.ensures.stays; quiet = tt; cause = read_cause _ prepare_effects _ _ _ (message_prepares _ _ _ c.in-Err.ensures.cause) }
+    { stays = c.in-Err.ensures.stays; quiet = tt; cause = read_cause _ prepare_effects _ _ _ (message_step prepare_effects tt _ _ _ c.in-Err.ensures.cause) }
 
 pub returns-in-Err-clause-panel : goal.returns-in-Err-clause-panel
 returns-in-Err-clause-panel g c =
