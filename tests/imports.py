@@ -3,8 +3,10 @@
 
     imports.py            a line for each such name: its file, its line and the name; then how many there are. Ends with 1 where there is one
 
-A name of a `use` (of code, and of a `ghost use`) counts as used where it stands anywhere else in its file outside comments. An operator, whose places for
-what it joins are written as circles, counts as used where its signs stand; and a trait of the crates, or one of `METHODS`, where one of its methods is called.
+A name of a `use` (of code, and of a `ghost use`) counts as used where it stands anywhere else in its file outside comments; in a file of definitions or proofs, where
+a name may have hyphens, as a whole word between blanks, brackets and dots. An operator, whose places for what it joins are written as circles, counts as used where
+its signs stand; and a trait of the crates, or one of `METHODS`, where one of its methods is called. A name that is used for something of the file's own alone isn't
+found: the prover tells of those.
 """
 
 import glob
@@ -15,6 +17,8 @@ import sys
 TOP = os.path.join(os.path.dirname(os.path.abspath(__file__)), "..")
 USE = re.compile(r"(?m)^[ ]*(?:pub )?(?:ghost )?use ([^;{\n]*(?:\{[^}]*\})?[^;{\n]*);?[ ]*$")
 WORD = r"[\w']"
+BETWEEN = re.compile(r"[\s(){},;⟦⟧\"]+")
+PLAIN = re.compile(r"[\w'-]+")
 TRAIT = re.compile(r"(?m)^pub trait (\w+).*\n((?:(?!\}).*\n)*)")
 METHOD = re.compile(r"(?m)^    fn (\w+)")
 
@@ -27,6 +31,20 @@ def names_of(text):
     else:
         parts = [re.split(r"::|\.", text.strip())[-1] if " as " not in text else text.strip()]
     return [it.split(" as ")[-1].strip() for it in parts]
+
+
+def words_of(text):
+    """The words of definitions or proofs, those that dots join also by themselves."""
+    joined = {it.strip(".") for it in BETWEEN.split(text)}
+    return joined | {part for it in joined for part in it.split(".")}
+
+
+def uses_word(name, words, text):
+    """Whether definitions or proofs use an imported name."""
+    signs = [it for it in words if not PLAIN.fullmatch(it)]
+    if "◌" in name:
+        return all(it in words or any(it in sign for sign in signs) for it in name.split("◌") if it)
+    return name in words or not PLAIN.fullmatch(name) and name in text
 
 
 def uses(name, text):
@@ -55,14 +73,16 @@ def unused(path):
     with open(path, encoding="utf-8") as file:
         text = file.read()
     code = path.endswith(".rt")
-    bare = re.sub(r"(?m)//.*$" if code else r"(?m)^\s*--.*$", lambda it: "", text)
+    bare = re.sub(r"(?m)//.*$" if code else r"(?m)(^|\s)\s*--(\s.*)?$", lambda it: "", text)
     rest = USE.sub("", bare)
+    words = set() if code else words_of(rest)
     for found in USE.finditer(text):
         if found.group(0).startswith("pub use"):
             continue
         for name in names_of(found.group(1)):
             called = code and any(f".{method}(" in rest for method in METHODS.get(name, []))
-            if name not in ("self", "*", "_") and not called and not uses(name, rest):
+            used = uses(name, rest) if code else uses_word(name, words, rest)
+            if name not in ("self", "*", "_") and not called and not used:
                 yield text.count("\n", 0, found.start()) + 1, name
 
 

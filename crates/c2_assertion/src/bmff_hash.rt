@@ -7,7 +7,9 @@ ghost use Rattle.std.specs.List.{list_any};
 ghost use Rattle.c2_spec.specs.Bmff.Paths.{enters_other, path_of};
 ghost use Rattle.c2_spec.specs.Bmff.Hash as form;
 ghost use Rattle.c2_bmff_paths.specs.Exclusions.{byte_test};
+ghost use Rattle.c2_assertion.specs.Reading.{bmff_hash_from, exclusions_fault};
 
+use crate::digest::{Digest, digest_in};
 use c2_base::limits::MAX_EXCLUSIONS;
 use c2_base::{Blob, NoMemory, Range, Ranges, Text};
 use c2_bmff_paths::{ByteTests, Exclusion, Exclusions, Path, read_path};
@@ -95,7 +97,6 @@ fn part_in(item: &Cbor) -> Option<Range>
 }
 
 /// The parts that the items are, where all of them are.
-#[tactic(auto, using(c2_spec::proofs::CborEach::each_next, c2_spec::proofs::CborEach::each_none, c2_spec::proofs::CborEach::each_all))]
 fn parts_in(alloc: Global, items: &[Cbor]) -> Result<Option<Vec<Range>>, NoMemory>
     ensures { IfOk result (λ found.
         option_map (λ v. v.items) found ≡ each_of form.part_of (items_view items.now)) }
@@ -184,7 +185,6 @@ fn exclusion_in(alloc: Global, item: &Cbor) -> Result<Option<Exclusion>, NoMemor
 }
 
 /// The exclusions that the items are, where all of them are.
-#[tactic(auto, using(c2_spec::proofs::CborEach::each_next, c2_spec::proofs::CborEach::each_none, c2_spec::proofs::CborEach::each_all))]
 fn exclusions_in(alloc: Global, items: &[Cbor]) -> Result<Option<Exclusions>, NoMemory>
     ensures { IfOk result (λ found. found ≡ each_of form.exclusion_of (items_view items.now)) }
 {
@@ -253,6 +253,37 @@ fn enters_otherwise(exclusions: &[Exclusion]) -> bool
     false
 }
 
+// The first fault of the exclusions of a BMFF hash, in the order in which `read_bmff_hash` names them.
+fn fault_of(item: &Cbor, exclusions: &[Exclusion]) -> Option<FieldError>
+    ensures { result ≡ exclusions_fault (view item.now) exclusions.now }
+{
+    let count = exclusions.len();
+    if count > MAX_EXCLUSIONS {
+        return Some(FieldError::TooMany(count));
+    }
+    if tests_otherwise(item) {
+        return Some(FieldError::Test);
+    }
+    if enters_otherwise(exclusions) {
+        return Some(FieldError::Path);
+    }
+    None
+}
+
+// The BMFF hash of an item with these exclusions, where they have no fault.
+fn hash_of(item: &Cbor, exclusions: Exclusions, digest: Digest) -> Result<BmffHash, FieldError>
+    ensures { result ≡ bmff_hash_from (view item.now) exclusions digest }
+{
+    match fault_of(item, exclusions.as_slice()) {
+        Some(fault) => Err(fault),
+        None => Ok(BmffHash {
+            exclusions,
+            alg: digest.alg,
+            hash: digest.hash,
+        }),
+    }
+}
+
 /// The BMFF hash that an item is (C2PA Technical Specification 2.x, "BMFF-based hash", version 2).
 ///
 /// Merkle: the item is a map with `merkle`. Form: it is no map, or `exclusions` is no list of exclusions, or `alg` is there and no
@@ -272,25 +303,8 @@ pub fn read_bmff_hash(alloc: Global, item: &Cbor) -> Result<BmffHash, FieldError
     let Some(exclusions) = exclusions_of(alloc, item)? else {
         return Err(FieldError::Form);
     };
-    let Some(alg) = c2_cbor_fields::optional_text(alloc, item, "alg")? else {
+    let Some(digest) = digest_in(alloc, item)? else {
         return Err(FieldError::Form);
     };
-    let Some(hash) = c2_cbor_fields::byte_string(alloc, item, "hash")? else {
-        return Err(FieldError::Form);
-    };
-    let count = exclusions.as_slice().len();
-    if count > MAX_EXCLUSIONS {
-        return Err(FieldError::TooMany(count));
-    }
-    if tests_otherwise(item) {
-        return Err(FieldError::Test);
-    }
-    if enters_otherwise(exclusions.as_slice()) {
-        return Err(FieldError::Path);
-    }
-    Ok(BmffHash {
-        exclusions,
-        alg,
-        hash,
-    })
+    hash_of(item, exclusions, digest)
 }

@@ -1,14 +1,14 @@
 // Writing a BMFF hash.
-ghost use Rattle.std.specs.Prelude.{◌≡◌, ◌++◌, codes, OnOk, IfOk, map};
+ghost use Rattle.std.specs.Prelude.{◌≡◌, ◌++◌, [], ◌∷◌, codes, OnOk, IfOk, map};
 ghost use Rattle.c2_spec.specs.Cbor.Item as item;
 ghost use Rattle.c2_spec.specs.Cbor.View.{view};
 ghost use Rattle.c2_bmff_paths.specs.Exclusions.{byte_test};
-ghost use Rattle.c2_spec.specs.Cbor.Writing.{field_if, pair_view};
-ghost use Rattle.c2_assertion.specs.Written.{bmff_hash_item, exclusion_item, part_item, parts_item, test_item, tests_field};
+ghost use Rattle.c2_spec.specs.Cbor.Writing.{field, field_if, pair_view};
+ghost use Rattle.c2_assertion.specs.Written.{bmff_hash_item, exclusion_item, exclusions_item, part_item, parts_item, test_item, tests_field};
 
 use crate::bmff_hash::BmffHash;
-use crate::fields_written::{add_alg, add_field, byte_string};
-use c2_base::{Blob, NoMemory, Range, Ranges, Text};
+use crate::fields_written::{add_alg, add_bytes, add_field, add_text};
+use c2_base::{Blob, NoMemory, Range, Ranges};
 use c2_bmff_paths::{ByteTests, Exclusion};
 use c2_spec::Cbor;
 use std::alloc::Global;
@@ -18,8 +18,7 @@ fn test_written(alloc: Global, test: &(u64, Blob)) -> Result<Cbor, NoMemory>
     ensures { IfOk result (λ v. view v ≡ test_item (byte_test test.now)) }
 {
     let mut fields = Vec::new(alloc);
-    let value = byte_string(alloc, &test.1)?;
-    add_field(alloc, &mut fields, "value", value)?;
+    add_bytes(alloc, &mut fields, "value", &test.1)?;
     add_field(alloc, &mut fields, "offset", Cbor::Uint(test.0))?;
     Ok(Cbor::Map(fields))
 }
@@ -111,8 +110,7 @@ fn exclusion_written(alloc: Global, exclusion: &Exclusion) -> Result<Cbor, NoMem
 {
     let mut fields = Vec::new(alloc);
     add_tests(alloc, &mut fields, &exclusion.tests)?;
-    let path = Cbor::Text(Text::copied(alloc, exclusion.path.text())?);
-    add_field(alloc, &mut fields, "xpath", path)?;
+    add_text(alloc, &mut fields, "xpath", exclusion.path.text())?;
     add_length(alloc, &mut fields, exclusion.length)?;
     add_subset(alloc, &mut fields, &exclusion.subset)?;
     Ok(Cbor::Map(fields))
@@ -129,6 +127,19 @@ fn exclusions_written(alloc: Global, exclusions: &[Exclusion]) -> Result<Vec<Cbo
     Ok(items)
 }
 
+// Adds the exclusions.
+fn add_exclusions(
+    alloc: Global,
+    fields: &mut Vec<(Cbor, Cbor)>,
+    exclusions: &[Exclusion],
+) -> Result<(), NoMemory>
+    ensures { OnOk result (map pair_view fields.new.items ≡ map pair_view fields.old.items
+        ++ field (codes "exclusions") (exclusions_item exclusions.now) ∷ []) }
+{
+    let items = exclusions_written(alloc, exclusions)?;
+    add_field(alloc, fields, "exclusions", Cbor::List(items))
+}
+
 /// The item of a BMFF hash (C2PA Technical Specification 2.x, "BMFF-based hash", version 2): `alg` where one is named, `hash`, and
 /// `exclusions`, each of them `data` where it has byte tests, `xpath`, `length` where one is stated, and `subset` where there is one.
 ///
@@ -139,9 +150,7 @@ pub fn write_bmff_hash(alloc: Global, value: &BmffHash) -> Result<Cbor, NoMemory
 {
     let mut fields = Vec::new(alloc);
     add_alg(alloc, &mut fields, &value.alg)?;
-    let hash = byte_string(alloc, &value.hash)?;
-    add_field(alloc, &mut fields, "hash", hash)?;
-    let exclusions = exclusions_written(alloc, value.exclusions.as_slice())?;
-    add_field(alloc, &mut fields, "exclusions", Cbor::List(exclusions))?;
+    add_bytes(alloc, &mut fields, "hash", &value.hash)?;
+    add_exclusions(alloc, &mut fields, value.exclusions.as_slice())?;
     Ok(Cbor::Map(fields))
 }

@@ -4,7 +4,9 @@ ghost use Rattle.c2_spec.specs.Cbor.View.{view, items_view};
 ghost use Rattle.c2_spec.specs.Cbor.Lookup.{field_of};
 ghost use Rattle.c2_spec.specs.Cbor.Fields.{IsAnswer, each_of, list_of, optional_list};
 ghost use Rattle.c2_spec.specs.C2pa.Assertion.{range_of, data_hash_of};
+ghost use Rattle.c2_assertion.specs.Reading.{data_hash_from};
 
+use crate::digest::{Digest, digest_in};
 use c2_base::limits::MAX_EXCLUSIONS;
 use c2_base::{NoMemory, Range, Ranges};
 use c2_cbor_fields::field;
@@ -21,7 +23,6 @@ fn range_in(item: &Cbor) -> Option<Range>
 }
 
 /// The ranges that the items are, where all of them are.
-#[tactic(auto, using(c2_spec::proofs::CborEach::each_next, c2_spec::proofs::CborEach::each_none, c2_spec::proofs::CborEach::each_all))]
 fn ranges_in(alloc: Global, items: &[Cbor]) -> Result<Option<Ranges>, NoMemory>
     ensures { IfOk result (λ found. found ≡ each_of range_of (items_view items.now)) }
 {
@@ -56,6 +57,21 @@ fn exclusions_of(alloc: Global, item: &Cbor) -> Result<Option<Ranges>, NoMemory>
     }
 }
 
+// The data hash with these exclusions, where there aren't too many.
+fn hash_of(exclusions: Ranges, digest: Digest) -> Result<DataHash, FieldError>
+    ensures { result ≡ data_hash_from exclusions digest }
+{
+    let count = exclusions.as_slice().len();
+    if count > MAX_EXCLUSIONS {
+        return Err(FieldError::TooMany(count));
+    }
+    Ok(DataHash {
+        exclusions,
+        alg: digest.alg,
+        hash: digest.hash,
+    })
+}
+
 /// The data hash that an item is (C2PA Technical Specification 2.x, "Data hash").
 ///
 /// Form: the item is no map, or `exclusions` is there and no list of maps with `start` and `length` numbers from 0 on, or
@@ -70,19 +86,8 @@ pub fn read_data_hash(alloc: Global, item: &Cbor) -> Result<DataHash, FieldError
     let Some(exclusions) = exclusions_of(alloc, item)? else {
         return Err(FieldError::Form);
     };
-    let Some(alg) = c2_cbor_fields::optional_text(alloc, item, "alg")? else {
+    let Some(digest) = digest_in(alloc, item)? else {
         return Err(FieldError::Form);
     };
-    let Some(hash) = c2_cbor_fields::byte_string(alloc, item, "hash")? else {
-        return Err(FieldError::Form);
-    };
-    let count = exclusions.as_slice().len();
-    if count > MAX_EXCLUSIONS {
-        return Err(FieldError::TooMany(count));
-    }
-    Ok(DataHash {
-        exclusions,
-        alg,
-        hash,
-    })
+    hash_of(exclusions, digest)
 }

@@ -1,11 +1,12 @@
 // Writing a data hash.
-ghost use Rattle.std.specs.Prelude.{◌≡◌, IfOk, length, map, replicate};
+ghost use Rattle.std.specs.Prelude.{◌≡◌, ◌++◌, [], ◌∷◌, codes, IfOk, OnOk, length, map, replicate};
 ghost use Rattle.c2_spec.specs.Cbor.Deterministic.{preferred};
 ghost use Rattle.c2_spec.specs.Cbor.Item as item;
 ghost use Rattle.c2_spec.specs.Cbor.View.{view};
-ghost use Rattle.c2_assertion.specs.Written.{data_hash_item, pad_len, range_item};
+ghost use Rattle.c2_spec.specs.Cbor.Writing.{field, pair_view};
+ghost use Rattle.c2_assertion.specs.Written.{data_hash_item, pad_len, range_item, ranges_item};
 
-use crate::fields_written::{add_alg, add_field, byte_string};
+use crate::fields_written::{add_alg, add_bytes, add_field};
 use c2_base::{Blob, NoMemory, Range};
 use c2_spec::{Cbor, DataHash};
 use std::alloc::Global;
@@ -72,6 +73,32 @@ fn ranges_written(alloc: Global, ranges: &[Range]) -> Result<Vec<Cbor>, NoMemory
     Ok(items)
 }
 
+// Adds the zero bytes that make up for the numbers of these ranges.
+fn add_padding(
+    alloc: Global,
+    fields: &mut Vec<(Cbor, Cbor)>,
+    ranges: &[Range],
+) -> Result<(), NoMemory>
+    ensures { OnOk result (map pair_view fields.new.items ≡ map pair_view fields.old.items
+        ++ field (codes "pad") (item.bytes (replicate (pad_len ranges.now) 0)) ∷ []) }
+{
+    let pad = zeros(alloc, padding(ranges))?;
+    add_field(alloc, fields, "pad", pad)
+}
+
+// Adds the exclusions.
+fn add_exclusions(
+    alloc: Global,
+    fields: &mut Vec<(Cbor, Cbor)>,
+    ranges: &[Range],
+) -> Result<(), NoMemory>
+    ensures { OnOk result (map pair_view fields.new.items ≡ map pair_view fields.old.items
+        ++ field (codes "exclusions") (ranges_item ranges.now) ∷ []) }
+{
+    let items = ranges_written(alloc, ranges)?;
+    add_field(alloc, fields, "exclusions", Cbor::List(items))
+}
+
 /// The item of a data hash (C2PA Technical Specification 2.x, "Data hash"): `alg` where one is named, `pad`, `hash` and `exclusions`,
 /// each of them `start` and `length`. With `w` the bytes that all these numbers are written in (1, 2, 3, 5 or 9 each), `pad` has
 /// 18 - `w` zero bytes, none where `w` is above 18: so the item of a hash with one exclusion has one length for all its numbers.
@@ -83,11 +110,8 @@ pub fn write_data_hash(alloc: Global, value: &DataHash) -> Result<Cbor, NoMemory
     let ranges = value.exclusions.as_slice();
     let mut fields = Vec::new(alloc);
     add_alg(alloc, &mut fields, &value.alg)?;
-    let pad = zeros(alloc, padding(ranges))?;
-    add_field(alloc, &mut fields, "pad", pad)?;
-    let hash = byte_string(alloc, &value.hash)?;
-    add_field(alloc, &mut fields, "hash", hash)?;
-    let exclusions = ranges_written(alloc, ranges)?;
-    add_field(alloc, &mut fields, "exclusions", Cbor::List(exclusions))?;
+    add_padding(alloc, &mut fields, ranges)?;
+    add_bytes(alloc, &mut fields, "hash", &value.hash)?;
+    add_exclusions(alloc, &mut fields, ranges)?;
     Ok(Cbor::Map(fields))
 }

@@ -1,5 +1,5 @@
 // Fields of a map that is written.
-ghost use Rattle.std.specs.Prelude.{◌≡◌, ◌++◌, [], ◌∷◌, codes, OnOk, IfOk, map};
+ghost use Rattle.std.specs.Prelude.{◌≡◌, ◌++◌, [], ◌∷◌, codes, OnOk, map};
 ghost use Rattle.c2_spec.specs.Cbor.Item as item;
 ghost use Rattle.c2_spec.specs.Cbor.View.{view};
 ghost use Rattle.c2_spec.specs.Cbor.Writing.{field, field_if, pair_view};
@@ -23,11 +23,32 @@ pub(crate) fn add_field(
     Ok(())
 }
 
-// A byte string.
-pub(crate) fn byte_string(alloc: Global, bytes: &Blob) -> Result<Cbor, NoMemory>
-    ensures { IfOk result (λ v. view v ≡ item.bytes bytes.now) }
+// Adds a field of this name that is a text.
+pub(crate) fn add_text(
+    alloc: Global,
+    fields: &mut Vec<(Cbor, Cbor)>,
+    name: &str,
+    text: &str,
+) -> Result<(), NoMemory>
+    ensures { OnOk result (map pair_view fields.new.items
+        ≡ map pair_view fields.old.items ++ field name.now (item.text text.now) ∷ []) }
 {
-    Ok(Cbor::Bytes(Blob::copied(alloc, bytes.as_slice())?))
+    let value = Cbor::Text(Text::copied(alloc, text)?);
+    add_field(alloc, fields, name, value)
+}
+
+// Adds a field of this name that is a byte string.
+pub(crate) fn add_bytes(
+    alloc: Global,
+    fields: &mut Vec<(Cbor, Cbor)>,
+    name: &str,
+    bytes: &Blob,
+) -> Result<(), NoMemory>
+    ensures { OnOk result (map pair_view fields.new.items
+        ≡ map pair_view fields.old.items ++ field name.now (item.bytes bytes.now) ∷ []) }
+{
+    let value = Cbor::Bytes(Blob::copied(alloc, bytes.as_slice())?);
+    add_field(alloc, fields, name, value)
 }
 
 // Adds the algorithm, where one is named.
@@ -39,9 +60,8 @@ pub(crate) fn add_alg(
     ensures { OnOk result (map pair_view fields.new.items
         ≡ map pair_view fields.old.items ++ field_if (codes "alg") item.text alg.now) }
 {
-    let Some(name) = alg else {
-        return Ok(());
-    };
-    let name = Cbor::Text(Text::copied(alloc, name.as_str())?);
-    add_field(alloc, fields, "alg", name)
+    match alg {
+        Some(name) => add_text(alloc, fields, "alg", name.as_str()),
+        None => Ok(()),
+    }
 }

@@ -12,7 +12,7 @@ use Rattle.c2_spec.specs.Bmff.Paths.{PlacedBox, placed_from}
 use Rattle.c2_bmff_rows.specs.Paths.{on_rows, HasBox}
 use Rattle.c2_bmff_excluded.specs.Marks.{excludes_row, has_length, holds_test, in_row, in_row_subset, marks, stands_at, takes}
 use Rattle.c2_bmff_rows.specs.Rows.{row_of, rows_of, Stands}
-use Rattle.c2_bmff_rows.proofs.BoxThere.{AreBytes}
+use Rattle.c2_lemmas.proofs.Bytes.{AreBytes}
 use Rattle.c2_spec.proofs.BmffSizes.{bytes_size}
 use Rattle.c2_bmff_rows.proofs.StandLemmas.{form_boxes, all_stand}
 use Rattle.c2_bmff_rows.proofs.PathRows.{OnRows, any_member, from_member, member_any, path_rows, rows_path, to_member}

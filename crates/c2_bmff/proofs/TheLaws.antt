@@ -1,7 +1,7 @@
 -- The laws of this crate, for the proofs of the crates above it.
 use Rattle.c2_bmff.proofs.MatchLemmas.{all_excluded_rows, all_rows_excluded}
 use Rattle.c2_bmff_excluded.specs.Marks.{excludes_row}
-use Rattle.c2_bmff_rows.proofs.BoxThere.{are_bytes}
+use Rattle.c2_lemmas.proofs.Bytes.{are_bytes}
 use Rattle.c2_bmff_rows.specs.Rows.{rows_of}
 use Rattle.c2_spec.specs.Bmff.Boxes.{Box, HasRoots}
 use Rattle.c2_spec.specs.Bmff.Hash.{Exclusion as AnyExclusion, IsExcluded}

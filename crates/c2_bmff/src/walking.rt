@@ -483,6 +483,34 @@ fn walk<S: Source>(
     Ok(())
 }
 
+// The list of siblings with which a walk begins, with the trails of all exclusions before their first steps.
+fn first_levels(
+    alloc: Global,
+    siblings: &[RootBox],
+    entries: &[Entry<'_>],
+) -> Result<Vec<Level>, NoMemory>
+    ensures ahead { IfOk result (λ levels. (file : List ℕ) (i : ℕ)
+        → list_any (level_ahead file entries.now i) levels.items
+        ≡ list_any (excludes_any file siblings.now i) entries.now) }
+    ensures within { IfOk result (λ levels. (len : ℕ)
+        → All (IsRowWithin len) siblings.now → All (IsLevelWithin len) levels.items) }
+{
+    let trails = first_trails(alloc, entries)?;
+    let rows = copied(alloc, siblings)?;
+    let mut levels = Vec::new(alloc);
+    add_level(&mut levels, rows, 0, trails)?;
+    Ok(levels)
+}
+
+// What a walk has in hand at its beginning: no ranges, and room for the bytes that byte tests ask for.
+fn new_marking(alloc: Global, entries: &[Entry<'_>]) -> Result<Marking, NoMemory>
+    ensures { IfOk result (λ marking. marking.ranges.items ≡ []) }
+{
+    let bytes = room_for(alloc, entries)?;
+    let ranges = Vec::new(alloc);
+    Ok(Marking { bytes, ranges })
+}
+
 /// The positions that these exclusions exclude together through these siblings and the boxes below them.
 pub(crate) fn mark_all<S: Source>(
     alloc: Global,
@@ -500,15 +528,10 @@ pub(crate) fn mark_all<S: Source>(
     ensures cause { IfErr result (IsBmffCaused (S.faults source.old) (S.faults source.new)) }
     ensures outside { IfErr result (λ e. OrBmffFault e ⊥) }
 {
-    let ranges = Vec::new(alloc);
-    let mut levels = Vec::new(alloc);
     let entries = entries_of(alloc, entries)?;
     let entries = entries.as_slice();
-    let trails = first_trails(alloc, entries)?;
-    let rows = copied(alloc, siblings)?;
-    add_level(&mut levels, rows, 0, trails)?;
-    let bytes = room_for(alloc, entries)?;
-    let mut marking = Marking { bytes, ranges };
+    let mut levels = first_levels(alloc, siblings, entries)?;
+    let mut marking = new_marking(alloc, entries)?;
     match walk(alloc, source, entries, &mut levels, &mut marking) {
         Ok(()) => Ok(marking.ranges),
         Err(error) => Err(error),

@@ -13,8 +13,8 @@ use Rattle.c2_bmff_boxes.specs.Roots.{row_at}
 use Rattle.c2_bmff_boxes.specs.declared.header.BoxHead.{BoxHead}
 use Rattle.c2_bmff_boxes.specs.declared.header.HeadError.{HeadError}
 use Rattle.c2_bmff_rows.specs.declared.row.RootBox.{RootBox}
-use Rattle.c2_bmff_rows.proofs.BoxThere.{AreBytes, bytes-drop, bytes-take}
-use Rattle.c2_bmff_rows.proofs.StandLemmas.{Fills, child_end, child_here, rows_told, told_filled}
+use Rattle.c2_lemmas.proofs.Bytes.{AreBytes, bytes-drop, bytes-take}
+use Rattle.c2_bmff_rows.proofs.StandLemmas.{Fills, child_end, child_here, payload_size, rows_told, told_filled}
 use Rattle.c2_bmff_boxes.proofs.HeaderLemmas.{head_of, fault_of}
 
 -- a header that runs to the end is no child's
@@ -134,13 +134,6 @@ walk_start file start end = record {
     none_before None = refl
     none_before (Some rows) = refl
 
--- a payload has its length
-pub payload_len : (file : List ℕ) (r : RootBox) → r.start + r.length ≤ length file → r.header ≤ r.length
-    → length (payload_at file r) ≡ r.length - r.header
-payload_len file r inside ordered =
-    length-take-le (r.length - r.header) (drop (r.start + r.header) file)
-    (omega (arith, length-drop (r.start + r.header) file, inside, ordered))
-
 -- ---- what the rows are
 
 -- a part has its length
@@ -181,4 +174,4 @@ kids_between file r inside ordered =
     let n : (r.start + r.length) - (r.start + r.header) ≡ r.length - r.header = omega (arith, ordered) in
     ap (λ k. or_none (child_rows k (r.start + r.header) (take k (drop (r.start + r.header) file)))) n
     ∙ ap (λ k. or_none (child_rows k (r.start + r.header) (payload_at file r)))
-    (sym (payload_len file r inside ordered))
+    (sym (payload_size file r inside ordered))

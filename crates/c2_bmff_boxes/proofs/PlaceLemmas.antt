@@ -16,6 +16,7 @@ use Rattle.c2_spec.specs.Bmff.Writing.{before_mfra, insert_place, is_mfra, less,
 use Rattle.c2_bmff_rows.specs.declared.row.RootBox.{RootBox}
 use Rattle.c2_bmff_boxes.proofs.Filling.{fill_end, fill_within_by}
 use Rattle.c2_bmff_rows.proofs.Lists.{length-placed}
+use Rattle.c2_lemmas.proofs.Parts.{each_take}
 use Rattle.c2_spec.proofs.BmffShared.{boxes_length_more}
 
 -- ---- the last row
@@ -76,12 +77,6 @@ room_ends size [] h small = refl
 room_ends size (r ∷ []) h small = (omega arith, omega (arith, h.0, small))
 room_ends size (r ∷ s ∷ rs) h small = room_ends size (s ∷ rs) h.1 small
 
--- what holds of all holds of the first
-all_take : {A : Type 0} (P : A → Type 0) (i : ℕ) (xs : List A) → AllByRecursion P xs → AllByRecursion P (take i xs)
-all_take P zero xs h = tt
-all_take P (suc i) [] h = tt
-all_take P (suc i) (x ∷ xs) h = (h.0, all_take P i xs h.1)
-
 -- all rows of a file
 pub room_whole : (size low : ℕ) (rows : List RootBox) → FillSource size low rows → size < 2 ^ 64 → HasRoom 0 rows
 room_whole size low rows f small = room_ends size rows (fill_within_by size low rows f) small
@@ -90,7 +85,7 @@ room_whole size low rows f small = room_ends size rows (fill_within_by size low 
 pub room_front : (size low i : ℕ) (rows : List RootBox) → FillSource size low rows → size < 2 ^ 64
     → HasRoom 0 (take i rows)
 room_front size low i rows f small =
-    room_ends size (take i rows) (all_take (IsBoxWithin size) i rows (fill_within_by size low rows f)) small
+    room_ends size (take i rows) (each_take (IsBoxWithin size) i rows (fill_within_by size low rows f)) small
 
 -- ---- the place lies in the file
 
@@ -221,7 +216,7 @@ pub front_is : (i : ℕ) (bs : List Box) → AllByRecursion IsBox bs → i + 1 �
     → place_behind 0 (take i (rows_of bs)) ≡ place_without (Some i) bs
 front_is i bs f e =
     ap (place_behind 0) (take-map row_of i (placed_from 0 bs) ∙ ap (map row_of) (placed_take 0 i bs))
-    ∙ whole_is (take i bs) (all_take IsBox i bs f)
+    ∙ whole_is (take i bs) (each_take IsBox i bs f)
     ∙ ap₂ (λ (ps : List PlacedBox) (xs : List Box). place_or (open_end ps) (insert_place xs))
     (sym (less_last i (placed_from 0 bs) (omega (arith, e, length-placed 0 bs)) ∙ placed_take 0 i bs))
     (sym (less_last i bs e))

@@ -16,6 +16,7 @@ use Rattle.c2_bmff_boxes.specs.declared.provenance.Part.{Part}
 use Rattle.c2_bmff_boxes.specs.declared.provenance.Part.TheVariants as part
 use Rattle.c2_bmff_rows.specs.declared.row.RootBox.{RootBox}
 use Rattle.c2_spec.proofs.BmffSizes.{bytes_size, header_size}
+use Rattle.c2_lemmas.proofs.Parts.{first_same, others_same}
 
 -- ---- the box of a row
 
@@ -26,10 +27,6 @@ pub record BoxAt (p : ℕ) (boxes : List Box) (n : ℕ) (r : RootBox) : Type 0 w
   pub split : boxes ≡ take n boxes ++ box ∷ drop (suc n) boxes
   pub more : take (suc n) boxes ≡ take n boxes ++ box ∷ []
   pub row : r ≡ row_of (record { at = p + boxes_len (take n boxes); box = box })
-
--- equal lists have the same first member
-first_same : {X : Type 0} (x y : X) (xs ys : List X) → x ∷ xs ≡ y ∷ ys → x ≡ y
-first_same x y xs ys e = cc (e)
 
 -- behind `n` rows of root boxes, the next row is that of a box there
 pub box_at : (p : ℕ) (boxes : List Box) (n : ℕ) (r : RootBox) (rs : List RootBox) → AreBoxForms boxes
@@ -86,17 +83,11 @@ snoc [] b (d ∷ cs) c ds e = absurd (no_room cs c ds (others_same b d [] (cs ++
     no_room : (cs : List Box) (c : Box) (ds : List Box) → [] ≡ cs ++ c ∷ ds → ⊥
     no_room [] c ds e = cc (e)
     no_room (x ∷ cs) c ds e = cc (e)
-
-    others_same : (b c : Box) (bs cs : List Box) → b ∷ bs ≡ c ∷ cs → bs ≡ cs
-    others_same b c bs cs e = cc (e)
 snoc (x ∷ bs) b [] c ds e = inr (bs, ap (λ (z : Box). z ∷ bs) (first_same x c (bs ++ b ∷ []) ds e))
 snoc (x ∷ bs) b (d ∷ cs) c ds e = ⊎_elim
     (λ h. inl (ap₂ (λ (z : Box) (zs : List Box). z ∷ zs) (first_same x d (bs ++ b ∷ []) (cs ++ c ∷ ds) e) h.0, h.1))
     (λ h. inr (h.0, ap₂ (λ (z : Box) (zs : List Box). z ∷ zs) (first_same x d (bs ++ b ∷ []) (cs ++ c ∷ ds) e) h.1))
     (snoc bs b cs c ds (others_same x d (bs ++ b ∷ []) (cs ++ c ∷ ds) e))
-  where
-    others_same : (b c : Box) (bs cs : List Box) → b ∷ bs ≡ c ∷ cs → bs ≡ cs
-    others_same b c bs cs e = cc (e)
 
 -- one more box that passes
 pub pass_more : (bs : List Box) (b : Box) → AllRootsPass bs → provenance_fault bs b ≡ None → AllRootsPass (bs ++ b ∷ [])

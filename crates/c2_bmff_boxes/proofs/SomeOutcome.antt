@@ -20,7 +20,8 @@ use Rattle.c2_bmff_boxes.specs.Search.{FailsBy, Searched, StepsBy}
 use Rattle.c2_bmff_boxes.specs.declared.provenance.Part.{Part}
 use Rattle.c2_bmff_boxes.specs.declared.provenance.Part.TheVariants as part
 use Rattle.c2_bmff_rows.specs.declared.row.RootBox.{RootBox}
-use Rattle.c2_bmff_rows.proofs.BoxThere.{AreBytes, bytes-drop, box_there}
+use Rattle.c2_bmff_rows.proofs.BoxThere.{box_there}
+use Rattle.c2_lemmas.proofs.Bytes.{AreBytes, bytes-drop}
 use Rattle.c2_bmff_boxes.proofs.FoundLemmas.{searched_fails, searched_none, searched_not, searched_uuid}
 use Rattle.c2_bmff_boxes.proofs.WalkLemmas.{all_more, forms_more}
 use Rattle.c2_spec.proofs.BmffSizes.{bytes_size}

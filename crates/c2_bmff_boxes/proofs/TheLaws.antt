@@ -1,7 +1,7 @@
 -- The laws of this crate, for the proofs of the crates above it.
 use Rattle.c2_bmff_boxes.proofs.SomeOutcome.{some_outcome}
 use Rattle.c2_bmff_boxes.proofs.StoreBytes.{store-bytes}
-use Rattle.c2_bmff_rows.proofs.BoxThere.{are_bytes}
+use Rattle.c2_lemmas.proofs.Bytes.{are_bytes}
 use Rattle.c2_spec.specs.Bmff.Store.{HasBmffStore, IsBmffLocated}
 use Rattle.c2_spec.specs.Located.{Located}
 use Rattle.std.specs.Prelude.{All, List, ℕ, ◌<◌, ◌^◌}

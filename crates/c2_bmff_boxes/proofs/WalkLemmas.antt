@@ -18,7 +18,8 @@ use Rattle.c2_bmff_boxes.specs.Roots.{AreRootsOf, Walks, row_at}
 use Rattle.c2_bmff_rows.specs.Rows.{BeginsWith, row_of, rows_of}
 use Rattle.c2_bmff_boxes.specs.declared.header.BoxHead.{BoxHead}
 use Rattle.c2_bmff_rows.specs.declared.row.RootBox.{RootBox}
-use Rattle.c2_bmff_rows.proofs.BoxThere.{AreBytes, bytes-drop, box_there}
+use Rattle.c2_bmff_rows.proofs.BoxThere.{box_there}
+use Rattle.c2_lemmas.proofs.Bytes.{AreBytes, bytes-drop}
 use Rattle.c2_bmff_rows.proofs.Lists.{length-rows}
 
 -- one more box that is one of them

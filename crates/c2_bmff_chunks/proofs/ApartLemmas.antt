@@ -5,7 +5,6 @@ use Rattle.std.specs.List.{flat_map, AllByRecursion}
 use Rattle.std.specs.Option.{option_map_or}
 use Rattle.std.specs.Str.{bytes_eq}
 use Rattle.std.proofs.lemmas.Bool.{and_parts}
-use Rattle.std.proofs.lemmas.List.{length-drop, length-take-le}
 use borrow.Author.Tests.{eqb-true}
 use Rattle.c2_spec.specs.Bmff.Boxes.{Box, HasRoots, IsBox, box_bytes, box_len, boxes_len, header_len}
 use Rattle.c2_spec.specs.Bmff.Paths.{placed_from}
@@ -13,8 +12,8 @@ use Rattle.c2_spec.proofs.BmffSizes.{bytes_size}
 use Rattle.c2_bmff_rows.specs.Children.{child_rows}
 use Rattle.c2_bmff_rows.specs.Rows.{payload_at, row_of, rows_of}
 use Rattle.c2_bmff_rows.specs.declared.row.RootBox.{RootBox}
-use Rattle.c2_bmff_rows.proofs.BoxThere.{AreBytes, bytes-drop, bytes-take}
-use Rattle.c2_bmff_rows.proofs.StandLemmas.{Fills, form_boxes, rows_told, told_filled}
+use Rattle.c2_lemmas.proofs.Bytes.{AreBytes, bytes-drop, bytes-take}
+use Rattle.c2_bmff_rows.proofs.StandLemmas.{Fills, form_boxes, payload_size, rows_told, told_filled}
 use Rattle.c2_bmff_chunks.specs.Refusals.{refusals_below, sibling_refusals}
 use Rattle.c2_bmff_chunks.specs.Tables.{StandApart, fields_len, inner, is_table, is_table_kind, stated_count, table_len, table_of, tables_among, tables_below, wide_kind}
 use Rattle.c2_bmff_chunks.specs.declared.table.ChunkTable.{ChunkTable}
@@ -42,13 +41,6 @@ boxes_apart at (b ∷ bs) h =
     length-append (box_bytes b) (flat_map box_bytes bs) ∙ ap (λ n. n + boxes_len bs) (bytes_size b h.0) in
     let e : at + box_len b + boxes_len bs ≡ at + boxes_len (b ∷ bs) = omega (arith, more) in
     (omega arith, header_in b, subst (λ n. RowsApart (at + box_len b) n (map row_of (placed_from (at + box_len b) bs))) e (boxes_apart (at + box_len b) bs h.1))
-
--- a payload has its length
-pub payload_size : (file : List ℕ) (r : RootBox) → r.start + r.length ≤ length file → r.header ≤ r.length
-    → length (payload_at file r) ≡ r.length - r.header
-payload_size file r inside ordered =
-    length-take-le (r.length - r.header) (drop (r.start + r.header) file)
-    (omega (arith, length-drop (r.start + r.header) file, inside, ordered))
 
 -- the boxes inside another follow one another in it
 pub inner_apart : (file : List ℕ) (r : RootBox) (rows : List RootBox) → AreBytes file → length file < 2 ^ 62

@@ -5,7 +5,7 @@ use Rattle.std.specs.Int.{w32, w64, from_be_bytes}
 use Rattle.std.proofs.lemmas.Bool.{cases_lt}
 use Rattle.std.proofs.lemmas.Bool.Decides.{Decides-ltb}
 use Rattle.std.proofs.lemmas.Nat.{be_bytes_4, be_bytes_8, from_be_bytes-to_be_bytes_4, from_be_bytes-to_be_bytes_8}
-use Rattle.c2_bmff_rows.proofs.BoxThere.{AreBytes, bytes-drop, bytes-take}
+use Rattle.c2_lemmas.proofs.Bytes.{AreBytes, bytes-drop, bytes-take}
 use Rattle.c2_bmff_rows.proofs.PathRows.{Member}
 use Rattle.c2_bmff_chunks.specs.Fields.{Covers, all_fields, field_limit, fields_from, fields_of, moved, number_at, number_bytes}
 use Rattle.c2_bmff_chunks.specs.Shifted.{moved_bytes, part_with, put_over, put_over_from, with_fields}

@@ -3,7 +3,7 @@ use Rattle.std.proofs.Common.{◌≡◌, ℕ, ◌+◌, ◌^◌, ◌<◌, List, [
 use Rattle.std.specs.Coded.{×_prop, le_prop}
 use Rattle.std.specs.Prelude.{All}
 use Rattle.std.specs.Option.{ForSome}
-use Rattle.c2_bmff_rows.proofs.BoxThere.{are_bytes}
+use Rattle.c2_lemmas.proofs.Bytes.{are_bytes}
 use Rattle.c2_bmff_chunks.specs.Fields.{all_fields}
 use Rattle.c2_bmff_chunks.specs.Shifted.{shifted}
 use Rattle.c2_bmff_chunks.specs.Tables.{StandApart, table_len}

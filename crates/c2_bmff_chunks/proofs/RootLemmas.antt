@@ -14,7 +14,7 @@ use Rattle.c2_spec.proofs.BmffOneList.{first_box, tells}
 use Rattle.c2_spec.proofs.BmffSizes.{bytes_size, header_size}
 use Rattle.c2_bmff_rows.specs.Rows.{row_of, rows_of}
 use Rattle.c2_bmff_rows.specs.declared.row.RootBox.{RootBox}
-use Rattle.c2_bmff_rows.proofs.BoxThere.{AreBytes, are_bytes}
+use Rattle.c2_lemmas.proofs.Bytes.{AreBytes, are_bytes}
 use Rattle.c2_bmff_rows.proofs.HeldLemmas.{begins_from, held_once}
 use Rattle.c2_bmff_rows.proofs.PathRows.{Member, to_member}
 use Rattle.c2_bmff_rows.proofs.StandLemmas.{form_boxes}

@@ -6,7 +6,7 @@ use Rattle.std.proofs.lemmas.List.{drop-drop, drop_at, get_or-drop, get_or-take,
 use Rattle.std.proofs.lemmas.List.Elements.{All-from_get_or}
 use Rattle.std.proofs.lemmas.Grind.{same_number_lists}
 use Rattle.c2_spec.specs.PutIn.{put_in}
-use Rattle.c2_bmff_rows.proofs.BoxThere.{AreBytes, are_bytes, bytes-drop, bytes-take}
+use Rattle.c2_lemmas.proofs.Bytes.{AreBytes, are_bytes, bytes-drop, bytes-take}
 use Rattle.c2_bmff_rows.proofs.PathRows.{Member, from_member, to_member}
 use Rattle.c2_bmff_chunks.specs.Fields.{Covers, all_fields, field_limit, moved, number_at, number_bytes, overflows}
 use Rattle.c2_bmff_chunks.specs.Laws.{ChunksStay, OneShifted, SomeShifted}

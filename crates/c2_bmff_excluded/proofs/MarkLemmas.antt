@@ -1,21 +1,13 @@
 -- Byte tests a piece at a time, and positions a row at a time.
-use Rattle.std.proofs.Common.{◌≡◌, ℕ, suc, ◌+◌, ◌-◌, ◌≤◌, Bool, true, false, ◌&&◌, List, [], ◌∷◌, ◌++◌, length, take, drop, refl, sym, ap, ap₂, ◌∙◌, arith}
-use Rattle.std.specs.Prelude.{bytes_eq, nat_eq}
+use Rattle.std.proofs.Common.{◌≡◌, ℕ, ◌+◌, ◌-◌, ◌≤◌, Bool, true, false, ◌&&◌, List, [], ◌∷◌, length, take, drop, refl, sym, ap, ap₂, ◌∙◌, arith}
+use Rattle.std.specs.Prelude.{bytes_eq}
 use Rattle.std.specs.List.{list_any}
 use Rattle.std.proofs.lemmas.List.{length-drop, length-take-le, drop-drop, take-append-drop, take-take, drop-take}
 use Rattle.c2_base.specs.declared.values.Range.{Range}
 use Rattle.c2_bmff_excluded.specs.Marks.{in_row, in_row_part, stands_at}
 use Rattle.c2_bmff_rows.specs.declared.row.RootBox.{RootBox}
 use Rattle.c2_spec.specs.Bmff.Hash.{in_part}
-use Rattle.c2_lemmas.proofs.Bools.{and_join}
-
--- fronts of one length, and rests
-eq_append : (xs ys us vs : List ℕ) → length xs ≡ length ys
-    → bytes_eq (xs ++ us) (ys ++ vs) ≡ (bytes_eq xs ys && bytes_eq us vs)
-eq_append [] [] us vs e = refl
-eq_append [] (y ∷ ys) us vs e = absurd (cc (e))
-eq_append (x ∷ xs) [] us vs e = absurd (cc (e))
-eq_append (x ∷ xs) (y ∷ ys) us vs e = let f : length xs ≡ length ys = let g : suc (length xs) ≡ suc (length ys) = e in omega (arith, g) in ap (λ b. nat_eq x y && b) (eq_append xs ys us vs f) ∙ and_join (nat_eq x y) (bytes_eq xs ys) (bytes_eq us vs)
+use Rattle.c2_lemmas.proofs.Parts.{eq_append}
 
 -- the first bytes of a value, and the others
 pub stands_split : (file : List ℕ) (at : ℕ) (value : List ℕ) (n : ℕ) → n ≤ length value

@@ -3,7 +3,8 @@ use Rattle.std.proofs.Common.{◌≡◌, ℕ, ◌+◌, ◌-◌, ◌<◌, ◌≤�
 use Rattle.std.specs.declared.option.Option.{Option}
 use Rattle.std.specs.List.{list_all, list_any, AllByRecursion}
 use Rattle.std.proofs.lemmas.List.{drop_more, get_or-append-add, get_or-drop, get_or_append_left, get_or_default, length-append, length-drop, take-append-drop, take-append-le, take_all}
-use Rattle.std.proofs.lemmas.List.Elements.{recursion_from_All}
+use Rattle.std.specs.Prelude.{All}
+use Rattle.std.proofs.lemmas.List.Elements.{All-push, All-weaker, recursion_from_All}
 use Rattle.std.proofs.lemmas.List.Folds.{list_any-append}
 use Rattle.std.proofs.lemmas.List.Sorted.{IsNonDecreasingBy-push, IsNonDecreasingBy-take}
 use Rattle.c2_base.specs.declared.values.Range.{Range}
@@ -11,13 +12,27 @@ use Rattle.c2_spec.specs.Bmff.Hash.{ByteTest, Exclusion, in_subset}
 use Rattle.c2_spec.specs.Bmff.Paths.{PathStep}
 use Rattle.c2_bmff_rows.specs.Paths.{on_rows}
 use Rattle.c2_bmff_excluded.specs.Marks.{excludes_any, excludes_row, has_length, holds_test, in_row, in_row_part, in_row_subset, marks, takes}
-use Rattle.c2_bmff_excluded.specs.Parts.{AreRising, AskSame, MarkSame}
+use Rattle.c2_bmff_excluded.specs.Parts.{AreRising, AskSame, MarkSame, StartsBy}
 use Rattle.c2_bmff_excluded.specs.Runs.{MeetAlike}
 use Rattle.c2_bmff_rows.specs.declared.row.RootBox.{RootBox}
 use Rattle.c2_bmff_rows.proofs.Lists.{any_append}
 use Rattle.c2_lemmas.proofs.Bools.{or_false, or_join}
 
 -- ---- parts in order
+
+-- one more part at the end, which begins no earlier than the others
+pub rising_push : (parts : List Range) (part : Range) → AreRising parts → All (StartsBy part.start) parts
+    → AreRising (parts ++ part ∷ [])
+rising_push parts part rising all =
+    IsNonDecreasingBy-push (λ (p : Range). p.start) parts part rising
+    (λ d some. all (length parts - 1) d (omega (arith, some)))
+
+-- with it, they begin no later than what begins no earlier than it
+pub begin_by : (n : ℕ) (parts : List Range) (part : Range) → All (StartsBy part.start) parts → part.start ≤ n
+    → All (StartsBy n) (parts ++ part ∷ [])
+begin_by n parts part all from =
+    All-push (StartsBy n) parts part (All-weaker (StartsBy part.start) (StartsBy n) (λ x le. omega (arith, le, from)) parts all)
+    from
 
 -- parts of which the last is replaced by one that begins where it did
 pub again_rising : (xs : List Range) (x y : Range) → y.start ≡ x.start → AreRising (xs ++ x ∷ [])

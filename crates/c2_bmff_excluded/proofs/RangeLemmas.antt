@@ -1,13 +1,14 @@
 -- Ranges that are added to others: what they exclude, and whether they stay apart.
-use Rattle.std.proofs.Common.{◌≡◌, ℕ, ◌+◌, ◌<◌, ◌≤◌, Bool, true, false, ◌||◌, List, [], ◌∷◌, ◌++◌, take, drop, sym, ap, refl, ◌∙◌, arith}
+use Rattle.std.proofs.Common.{◌≡◌, ℕ, ◌+◌, ◌-◌, ◌<◌, ◌≤◌, max, Bool, true, false, ◌||◌, List, [], ◌∷◌, ◌++◌, take, drop, sym, ap, refl, ◌∙◌, arith}
 use Rattle.std.specs.Prelude.{OnErr, Ok, Err}
 use Rattle.std.specs.List.{AllByRecursion, list_any}
 use Rattle.std.specs.declared.result.Result.{Result}
+use Rattle.std.proofs.lemmas.Bool.Decides.{nat_tests}
 use Rattle.std.proofs.lemmas.List.{take-append-drop}
 use Rattle.std.proofs.lemmas.List.Folds.{list_any-append}
 use Rattle.c2_base.specs.declared.values.Range.{Range}
 use Rattle.c2_bmff_rows.specs.declared.row.RootBox.{RootBox}
-use Rattle.c2_spec.specs.Cover.{is_excluded}
+use Rattle.c2_spec.specs.Cover.{holds, is_excluded}
 use Rattle.c2_bmff_excluded.specs.Marks.{AreApart, GrowsWithin, in_row, in_row_part}
 use Rattle.c2_bmff_excluded.proofs.MarkLemmas.{parts_are}
 use Rattle.c2_lemmas.proofs.Bools.{first_true}
@@ -41,6 +42,12 @@ any_first p k xs h =
 pub parts_in_row : (i : ℕ) (r : RootBox) (parts : List Range) → list_any (in_row_part i r) parts ≡ true
     → in_row i r ≡ true
 parts_in_row i r parts h = first_true (in_row i r) _ (sym (parts_are i r parts) ∙ h)
+
+-- a range that is made longer by one that begins in it or at its end
+pub holds_both : (i : ℕ) (last range : Range) (n : ℕ) → last.start ≤ range.start
+    → range.start - last.start ≤ last.length → n ≡ max last.length (range.start - last.start + range.length)
+    → holds i (record { start = last.start; length = n }) ≡ (holds i last || holds i range)
+holds_both i last range n from touches is = grind (arith, nat_tests)
 
 -- ---- whether they stay apart
 

@@ -4,8 +4,8 @@ use Rattle.std.specs.Prelude.{All, nat_le, nat_eq, bytes_eq}
 use Rattle.std.specs.List.{list_all, list_any, AllByRecursion}
 use Rattle.std.specs.List.Sorted.{IsPermutation}
 use Rattle.std.proofs.lemmas.Bool.{le-leb, lt-leb, cases_lt}
-use Rattle.std.proofs.lemmas.List.{append-nil, drop-append-le, drop-drop, drop_all, drop_at, length-append, length-drop, length-take-le, map-append, take-append-drop, take-append-le, take_all, take_more, take-take}
-use Rattle.std.proofs.lemmas.List.Elements.{All-push, recursion_from_All}
+use Rattle.std.proofs.lemmas.List.{append-nil, drop-append-le, drop-drop, drop_all, drop_more, drop_at, length-append, length-drop, length-take-le, map-append, take-append-drop, take-append-le, take_all, take_more, take-take}
+use Rattle.std.proofs.lemmas.List.Elements.{All-push, All-weaker, recursion_from_All}
 use Rattle.std.proofs.lemmas.List.Folds.{list_all-append, list_all-map, list_all_more}
 use Rattle.std.proofs.lemmas.List.Sorted.{list_any-IsPermutation}
 use Rattle.std.proofs.lemmas.Slice.Eq.{bytes_eq-Decides}
@@ -397,6 +397,26 @@ join_run file r old new runs last from offset value within front place join =
     (list_all (holds_test file r) (map (run_test old) runs))
     ∙ ap (λ n. holds_last file r old runs last && holds_at file r n value) place
 
+-- two tests that don't both hold, with another between them
+and_between : (a b c : Bool) → (a && c) ≡ false → ((a && b) && c) ≡ false
+and_between true b c h = ap (λ (t : Bool). b && t) h ∙ and_false b
+and_between false b c h = refl
+
+-- a value that asks for other bytes than the last run
+pub differ_run : (file : List ℕ) (r : RootBox) (old : List ℕ) (runs : List Run) (last : Last) (from offset : ℕ)
+    (value : List ℕ) → last.offset + from ≡ offset → Differ last.start from value old
+    → (holds_last file r old runs last && holds_at file r offset value) ≡ false
+differ_run file r old runs last from offset value place differ =
+    and_between (holds_test file r (last_test old last)) (list_all (holds_test file r) (map (run_test old) runs))
+    (holds_at file r offset value)
+    (ap (λ n. holds_test file r (last_test old last) && holds_at file r n value) (sym place) ∙ differ file r last.offset)
+
+-- runs among so many bytes are among more
+pub within_more : (few more : ℕ) (runs : List Run) → few ≤ more → All (IsRunWithin few) runs
+    → All (IsRunWithin more) runs
+within_more few more runs le all =
+    All-weaker (IsRunWithin few) (IsRunWithin more) (λ run h. (h.0, omega (arith, h.1, le))) runs all
+
 -- a value of no bytes only asks for a length
 pub holds_nothing : (file : List ℕ) (r : RootBox) (offset : ℕ) (value : List ℕ) → length value ≡ 0
     → nat_le (offset + length value) r.length ≡ true → holds_at file r offset value ≡ true
@@ -441,6 +461,18 @@ one_more_test least n most before after test all so_far long short = ap (λ b. b
 pub holds_short : (file : List ℕ) (r : RootBox) (offset : ℕ) (value : List ℕ)
     → nat_le (offset + length value) r.length ≡ false → holds_at file r offset value ≡ false
 holds_short file r offset value short = ap (λ b. b && stands_at file (r.start + offset) value) short
+
+-- no run
+abbrev pub no_run : Run
+no_run = record { offset = 0; start = 0; end = 0 }
+
+-- the runs from one on: that one, and the others
+pub runs_from : (file : List ℕ) (r : RootBox) (bytes : List ℕ) (runs : List Run) (k : ℕ) → k < length runs
+    → list_all (holds_test file r) (map (run_test bytes) (drop k runs))
+    ≡ (holds_test file r (run_test bytes (get_or runs k no_run))
+    && list_all (holds_test file r) (map (run_test bytes) (drop (k + 1) runs)))
+runs_from file r bytes runs k lt =
+    ap (λ (rs : List Run). list_all (holds_test file r) (map (run_test bytes) rs)) (drop_more runs k no_run lt)
 
 -- the tests of one key more
 pub all_more : (file : List ℕ) (r : RootBox) (tests : List (ℕ × List ℕ)) (keys : List Key) (k : ℕ)

@@ -3,7 +3,6 @@ use Rattle.std.proofs.Common.{◌≡◌, ℕ, ◌+◌, Bool, true, false, cond, 
 use Rattle.std.proofs.lemmas.Bool.{false≢true}
 use Rattle.std.proofs.lemmas.List.{append_cancel_left, length-replicate, map-append}
 use Rattle.std.proofs.lemmas.Slice.Eq.{bytes_eq-Decides}
-use Rattle.std.specs.Prelude.{replicate}
 use Rattle.std.specs.List.{flat_map, AllByRecursion}
 use Rattle.std.specs.Str.{bytes_eq}
 use Rattle.c2_spec.specs.Bmff.Boxes.{AreBoxForms, Box, HasRoots, IsBox, box_bytes, box_len, boxes_len, ftyp_kind, header_len, size_fits, uuid_kind, begins_bmff}
@@ -15,7 +14,7 @@ use Rattle.c2_spec.proofs.BmffOneStore.{split_once, store_or_none}
 use Rattle.c2_spec.proofs.BmffSizes.{bytes_size}
 use Rattle.c2_bmff_insert_spec.proofs.Placing.{begins_list, bytes_more, first_is, forms_append, forms_back, forms_front, left_is, one_more}
 use Rattle.c2_lemmas.proofs.Each.{each_append}
-use Rattle.c2_spec.proofs.BmffOneOutcome.{others_same}
+use Rattle.c2_lemmas.proofs.Parts.{others_same}
 
 -- ---- a freed box
 

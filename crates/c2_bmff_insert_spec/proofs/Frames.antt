@@ -1,9 +1,9 @@
 -- The box of a store: how long it is, and what is read of it.
-use Rattle.std.proofs.Common.{◌≡◌, ℕ, ◌+◌, ◌^◌, true, ◌&&◌, List, length, leb, ltb, refl, arith}
+use Rattle.std.proofs.Common.{◌≡◌, ℕ, ◌+◌, ◌^◌, ◌≤◌, true, ◌&&◌, List, length, leb, refl, arith}
 use Rattle.std.proofs.lemmas.Bool.{and_from, le-leb, lt-ltb}
 use Rattle.std.proofs.lemmas.List.{take_all}
 use Rattle.c2_spec.specs.Bmff.Boxes.{IsSizedBox, box_len}
-use Rattle.c2_spec.specs.Bmff.Store.{content_of, has_store_box, is_c2pa_box, is_store_box, store_in}
+use Rattle.c2_spec.specs.Bmff.Store.{content_of, has_store_box, is_c2pa_box, is_store_box, most_store_bytes, store_in}
 use Rattle.c2_spec.specs.Bmff.Writing.{IsBoxStore, c2pa_box, c2pa_frame_len, c2pa_payload, is_left_out}
 use Rattle.c2_spec.specs.Jumbf.Faults.{has_head, told_total}
 
@@ -15,16 +15,20 @@ payload_len store = omega arith
 pub frame_len : (store : List ℕ) → box_len (c2pa_box store) ≡ c2pa_frame_len + length store
 frame_len store = omega (arith, payload_len store)
 
--- the box of a store is a box that says its size
-pub is_frame : (store : List ℕ) → IsBoxStore store → IsSizedBox (c2pa_box store)
-is_frame store h = record {
+-- the box of a store says its size, where the store isn't too large
+pub sized_frame : (store : List ℕ) → length store ≤ most_store_bytes → IsSizedBox (c2pa_box store)
+sized_frame store h = record {
   is_box = record {
     kind = refl;
-    fits = lt-ltb (box_len (c2pa_box store)) (2 ^ 32) (omega (arith, frame_len store, h.small));
+    fits = lt-ltb (box_len (c2pa_box store)) (2 ^ 32) (omega (arith, frame_len store, h));
     user_type = λ _. omega (arith, payload_len store);
   };
   sized = refl;
 }
+
+-- the box of a store is a box that says its size
+pub is_frame : (store : List ℕ) → IsBoxStore store → IsSizedBox (c2pa_box store)
+is_frame store h = sized_frame store h.small
 
 -- the box of a store is one for a store
 pub holds_store : (store : List ℕ) → is_store_box (c2pa_box store) ≡ true

@@ -1,12 +1,9 @@
 -- A header that passes stands at the front of a box.
-use Rattle.std.proofs.Common.{◌≡◌, ℕ, zero, suc, ◌+◌, ◌-◌, ◌^◌, ◌<◌, ◌≤◌, Bool, true, false, cond, ◌&&◌, List, [], ◌∷◌, ◌++◌, length, get_or, take, drop, None, ltb, leb, ◌==◌, refl, sym, ap, ap₂, ◌∙◌, subst, arith, lit<}
-use Rattle.std.specs.Prelude.{All}
-use Rattle.std.specs.List.{AllByRecursion}
+use Rattle.std.proofs.Common.{◌≡◌, ℕ, zero, suc, ◌+◌, ◌-◌, ◌^◌, ◌<◌, ◌≤◌, Bool, true, false, cond, ◌&&◌, List, ◌++◌, length, take, drop, None, ltb, leb, ◌==◌, refl, sym, ap, ap₂, ◌∙◌, subst, arith}
 use Rattle.std.specs.Str.{bytes_eq}
 use Rattle.std.proofs.lemmas.Bool.Decides.{Decides-ltb}
-use Rattle.std.proofs.lemmas.List.{length-take-le, length-drop, take-append-drop, drop-drop, get_or-drop, append_assoc}
-use Rattle.std.proofs.lemmas.List.Elements.{recursion_from_All}
-use Rattle.std.proofs.lemmas.Nat.{be_bytes_4, be_bytes_8}
+use Rattle.std.proofs.lemmas.List.{length-take-le, length-drop, take-append-drop, drop-drop, append_assoc}
+use Rattle.std.proofs.lemmas.Nat.{be_bytes_4}
 use Rattle.std.specs.Int.{w32, w64, to_be_bytes, from_be_bytes}
 use Rattle.std.proofs.lemmas.Bool.{le-leb}
 use borrow.Author.Tests.{eqb-true, ltb-false}
@@ -15,31 +12,8 @@ use Rattle.c2_spec.specs.Bmff.Boxes.{SizeForm, short, long, to_end, box_fault, h
 use Rattle.c2_spec.proofs.BmffTests.{six, len_by, file_by}
 use Rattle.c2_bmff_rows.specs.Rows.{BeginsWith}
 use Rattle.c2_lemmas.proofs.Bools.{and_second}
+use Rattle.c2_lemmas.proofs.Bytes.{AreBytes, bytes-take, small_4, spell_8}
 use Rattle.c2_lemmas.proofs.Lists.{take_split}
-
--- each of the list is a byte; past the end is 0
-abbrev pub AreBytes : List ℕ → Type 0
-AreBytes xs = (i : ℕ) → get_or xs i 0 < 256
-
--- the bytes of a source are
-pub are_bytes : (xs : List ℕ) → All (λ b. b < 2 ^ 8) xs → AreBytes xs
-are_bytes xs h = go xs (recursion_from_All (λ b. b < 2 ^ 8) xs h)
-  where
-    go : (xs : List ℕ) → AllByRecursion (λ b. b < 2 ^ 8) xs → AreBytes xs
-    go [] h i = lit< tt
-    go (x ∷ xs) h zero = h.0
-    go (x ∷ xs) h (suc i) = go xs h.1 i
-
--- the first `n` of bytes are bytes
-pub bytes-take : (n : ℕ) (xs : List ℕ) → AreBytes xs → AreBytes (take n xs)
-bytes-take zero xs h i = lit< tt
-bytes-take (suc n) [] h i = lit< tt
-bytes-take (suc n) (x ∷ xs) h zero = h 0
-bytes-take (suc n) (x ∷ xs) h (suc i) = bytes-take n xs (λ k. h (suc k)) i
-
--- what is left of bytes behind the first `n` is bytes
-pub bytes-drop : (n : ℕ) (xs : List ℕ) → AreBytes xs → AreBytes (drop n xs)
-bytes-drop n xs h i = rw (get_or-drop n xs i 0) (h (n + i))
 
 -- six tests that all pass
 six_pass : {A : Type 0} (a b c d e f : Bool) (x y : A) → six a b c d e f x y ≡ None
@@ -52,21 +26,10 @@ six_pass false false false true e f x y h = absurd (cc (h))
 six_pass false false false false true f x y h = absurd (cc (h))
 six_pass false false false false false true x y h = absurd (cc (h))
 
--- a number of four bytes, and of eight
+-- a number that was read of the first four bytes is spelled by them
 four_at : (xs : List ℕ) (n : ℕ) → AreBytes xs → 4 ≤ length xs → n ≡ from_be_bytes w32 (take 4 xs)
     → to_be_bytes w32 n ≡ take 4 xs
 four_at xs n h inside e = be_bytes_4 (take 4 xs) n (length-take-le 4 xs inside) (bytes-take 4 xs h) e
-
--- the number of eight bytes from a place on
-eight_at : (xs : List ℕ) (at n : ℕ) → AreBytes xs → at + 8 ≤ length xs → n ≡ from_be_bytes w64 (take 8 (drop at xs))
-    → to_be_bytes w64 n ≡ take 8 (drop at xs)
-eight_at xs at n h inside e =
-    be_bytes_8 (take 8 (drop at xs)) n (length-take-le 8 (drop at xs) (omega (arith, length-drop at xs, inside)))
-    (bytes-take 8 (drop at xs) (bytes-drop at xs h)) e
-
--- four bytes make no greater number
-small_4 : (xs : List ℕ) → AreBytes xs → from_be_bytes w32 xs < 2 ^ 32
-small_4 xs h = omega (arith, h 0, h 1, h 2, h 3)
 
 -- a box whose header stands at the front of the rest
 begins : (f : SizeForm) (rest k : List ℕ) (len : ℕ) (e : Bool) → header_len f ≤ len → len ≤ length rest
@@ -106,7 +69,7 @@ header_short rest n h l e =
 header_long : (rest : List ℕ) (len : ℕ) → AreBytes rest → 16 ≤ length rest → 1 ≡ stated_size rest
     → len ≡ stated_long_size rest → to_be_bytes w32 1 ++ stated_kind rest ++ to_be_bytes w64 len ≡ take 16 rest
 header_long rest len h l one e =
-    ap (λ (xs : List ℕ). (to_be_bytes w32 1 ++ stated_kind rest) ++ xs) (eight_at rest 8 len h (omega (arith, l)) e)
+    ap (λ (xs : List ℕ). (to_be_bytes w32 1 ++ stated_kind rest) ++ xs) (spell_8 rest 8 len h (omega (arith, l)) e)
     ∙ ap (λ (xs : List ℕ). xs ++ take 8 (drop 8 rest)) (header_short rest 1 h (omega (arith, l)) one)
     ∙ sym (take_split 8 8 rest)
 

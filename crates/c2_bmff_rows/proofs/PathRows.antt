@@ -7,7 +7,7 @@ use Rattle.c2_spec.specs.Bmff.Paths.{PathStep, PlacedBox, OnPath, last, below, i
 use Rattle.c2_bmff_rows.specs.Children.{kids}
 use Rattle.c2_bmff_rows.specs.Rows.{row_of, Stands}
 use Rattle.c2_bmff_rows.specs.declared.row.RootBox.{RootBox}
-use Rattle.c2_bmff_rows.proofs.BoxThere.{AreBytes}
+use Rattle.c2_lemmas.proofs.Bytes.{AreBytes}
 use Rattle.c2_bmff_rows.proofs.StandLemmas.{KidsAre, kids_are, some_children}
 use Rattle.c2_bmff_rows.specs.Paths.{HasBox, go_on, on_rows, row_matched}
 

@@ -1,7 +1,7 @@
 -- Boxes that stand in a file, and the rows of their children.
 use Rattle.std.proofs.Common.{◌≡◌, ℕ, zero, suc, ◌+◌, ◌-◌, ◌^◌, ◌<◌, ◌≤◌, Bool, true, false, not, cond, ◌&&◌, ◌==◌, List, [], ◌∷◌, ◌++◌, length, take, drop, map, is_some, Option, Some, None, refl, sym, ap, ap₂, ◌∙◌, subst, arith, length-append, append_assoc}
 use Rattle.std.specs.List.{flat_map, AllByRecursion}
-use Rattle.std.proofs.lemmas.List.{length-drop, drop-drop, drop_all, take_at, drop_at, length-take}
+use Rattle.std.proofs.lemmas.List.{length-drop, drop-drop, drop_all, take_at, drop_at, length-take, length-take-le}
 use Rattle.c2_spec.specs.Bmff.Boxes.{AreBoxForms, SizeForm, short, long, to_end, Box, IsBox, IsSizedBox, box_bytes, box_fault, box_len, header_bytes, header_len, is_to_end, stated_size, stated_len, stated_kind, stated_header_len}
 use Rattle.c2_spec.specs.Bmff.Paths.{HasChildren, filled, unfilled, PlacedBox, placed_from}
 use Rattle.c2_spec.specs.Cbor.Fields.{joined}
@@ -11,7 +11,8 @@ use Rattle.c2_bmff_rows.specs.Children.{child_row, child_rows, is_child, kids, o
 use Rattle.c2_bmff_rows.specs.Rows.{payload_at, BeginsWith, row_of, Stands}
 use Rattle.c2_bmff_rows.specs.declared.row.RootBox.{RootBox}
 use Rattle.c2_base.specs.declared.media.MediaError.{MediaError}
-use Rattle.c2_bmff_rows.proofs.BoxThere.{AreBytes, bytes-drop, bytes-take, box_there}
+use Rattle.c2_bmff_rows.proofs.BoxThere.{box_there}
+use Rattle.c2_lemmas.proofs.Bytes.{AreBytes, bytes-drop, bytes-take}
 use Rattle.c2_spec.proofs.BmffSizes.{bytes_size, header_size}
 
 -- boxes in their forms are boxes
@@ -273,3 +274,10 @@ some_children file p bytes fits s = go (child_rows (length p.box.payload) 0 p.bo
         → (children : List PlacedBox) × HasChildren p children
     go (Some rows) e = let fills : Fills p.box.payload = told_filled (length p.box.payload) 0 p.box.payload rows are (omega (arith, size, fits)) e in (placed_from (p.at + header_len p.box.form) fills.boxes, filled fills.boxes (record { bytes = fills.bytes; forms = fills.sized }))
     go None e = ([], unfilled (λ boxes f. let wrong = sym e ∙ rows_told boxes (length p.box.payload) 0 p.box.payload f.forms are (omega (arith, size, fits)) f.bytes (omega arith) in cc (wrong)))
+
+-- a payload has its length
+pub payload_size : (file : List ℕ) (r : RootBox) → r.start + r.length ≤ length file → r.header ≤ r.length
+    → length (payload_at file r) ≡ r.length - r.header
+payload_size file r inside ordered =
+    length-take-le (r.length - r.header) (drop (r.start + r.header) file)
+    (omega (arith, length-drop (r.start + r.header) file, inside, ordered))

@@ -1,5 +1,5 @@
 -- The laws of this crate, for the proofs of the crates above it.
-use Rattle.c2_bmff_rows.proofs.BoxThere.{are_bytes}
+use Rattle.c2_lemmas.proofs.Bytes.{are_bytes}
 use Rattle.c2_bmff_rows.proofs.PathRows.{from_member, path_rows, rows_path, to_member}
 use Rattle.c2_bmff_rows.specs.Paths.{BoxesHaveRows, RowsHaveBoxes}
 

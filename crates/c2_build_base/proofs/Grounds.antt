@@ -18,7 +18,6 @@ use Rattle.c2_rules.specs.declared.answer.Answer.TheVariants as answer
 use Rattle.c2_rules.specs.declared.answer.Failing.{Failing}
 use Rattle.c2_rules.specs.declared.answer.Summary.{Summary}
 use Rattle.c2_definition.specs.declared.types.Definition.{Definition}
-use Rattle.c2_definition.specs.declared.types.NewAssertion.{NewAssertion}
 use Rattle.c2_new_file_spec.specs.Built.{HasDigestLen}
 use Rattle.c2_new_file_spec.specs.Fresh.{fresh_content}
 use Rattle.c2_new_file_spec.specs.Manifests.{supers_in}
@@ -95,18 +94,17 @@ fresh_content_is hash d k digests boxes none =
 
 -- what was made of a store for a definition is what is carried of it: its parent is this one, and no other where the store has one
 pub carried_over :
-    (hash : List ℕ → List ℕ) (d : Definition) (old : Tree) (texts : List (List ℕ)) (k : Carried) (own : NewAssertion)
-    (p : NamedManifest)
+    (hash : List ℕ → List ℕ) (d : Definition) (old : Tree) (texts : List (List ℕ)) (k : Carried) (p : NamedManifest)
     → HasDigestLen (new_alg d) hash → texts ≡ d.redact → k.boxes ≡ trees_bytes (redacted_boxes texts (boxes_in old))
-    → k.ingredients.items ≡ own ∷ [] → own ≡ ingredient_assertion hash (parent_ingredient p)
+    → k.ingredients.items ≡ ingredient_assertion hash (parent_ingredient p) ∷ []
     → ((q : NamedManifest) → IsParentOf q (supers_in (redacted_boxes texts (boxes_in old))) → q ≡ p)
     → IsCarriedOver hash d old k
-carried_over hash d old texts k own p digests same boxes alone made only = record {
+carried_over hash d old texts k p digests same boxes alone only = record {
   content = content_of d (redacted_boxes d.redact (boxes_in old)) (parent_ingredient p ∷ []);
   is = record {
     definition = refl;
     boxes = boxes ∙ ap (λ (ts : List (List ℕ)). trees_bytes (redacted_boxes ts (boxes_in old))) same;
-    assertions = alone ∙ ap (λ (a : NewAssertion). a ∷ []) made;
+    assertions = alone;
     ingredients = parent_alone p;
     digests = digests;
   };

@@ -89,11 +89,6 @@ pub stored_stage : (file : List ℕ) (f : Found) (t : Tree)
     → IsLocated file (here f.start f.length f.store) → IsMediaStage file (Ok (stored f.start f.length t))
 stored_stage file f t h located = (here f.start f.length t, (here f.start f.length f.store, located, h), refl)
 
--- what a store was read as that isn't refused
-pub here_tree : (f : Found) (r : StoreRead) (t : Tree) (s : List ManifestBoxes) → r ≡ read.Here t s → IsStoreRead f r
-    → IsManifestStore f.start f.length f.store (here f.start f.length t)
-here_tree f r t s is h = (subst (IsStoreRead f) is h).store
-
 -- the boxes of a store that was read and isn't refused
 pub boxes_of : (f : Found) (r : StoreRead) (t : Tree) (s : List ManifestBoxes) → r ≡ read.Here t s → IsStoreRead f r
     → IsStoreOf t s

@@ -1,5 +1,5 @@
 -- What was read of a media file, and what a new file is built over.
-use Rattle.std.specs.Prelude.{◌≡◌, ℕ, ◌+◌, ⊤, false, List, ◌++◌, length}
+use Rattle.std.specs.Prelude.{◌≡◌, ℕ, ◌+◌, ⊤, false, List, [], ◌∷◌, ◌++◌, length}
 use Rattle.std.specs.declared.option.Option.{Option}
 use Rattle.std.specs.declared.option.Option.TheVariants.{Some, None}
 use Rattle.std.specs.declared.result.Result.TheVariants.{Ok}
@@ -16,10 +16,11 @@ use Rattle.c2_rules.specs.declared.answer.Summary.{Summary}
 use Rattle.c2_container.specs.Contained.{IsSaid, IsWithin}
 use Rattle.c2_container.specs.declared.types.Contained.{Contained}
 use Rattle.c2_definition.specs.declared.types.Definition.{Definition}
+use Rattle.c2_definition.specs.declared.types.NewAssertion.{NewAssertion}
 use Rattle.c2_layout.specs.Parts.{IsContent}
-use Rattle.c2_new_file_spec.specs.Store.{Content}
+use Rattle.c2_new_file_spec.specs.Store.{Content, NamedManifest, ingredient_assertion, parent_ingredient}
 use Rattle.c2_layout.specs.declared.carried.Carried.{Carried}
-use Rattle.c2_new_file_spec.specs.Parents.{IsContentOver}
+use Rattle.c2_new_file_spec.specs.Parents.{IsContentOver, IsParentOf}
 use Rattle.c2_new_file_spec.specs.Refusing.{has_manifest, redaction_refusal}
 use Rattle.c2_without_store.specs.Clears.{cleared}
 use Rattle.c2_without_store.specs.declared.clearing.Clearing.{Clearing}
@@ -99,6 +100,12 @@ IsChecked hash said file = (s : Summary) × IsAnswer hash said file (Answer.Vali
 -- the check of a file refuses it with this error
 abbrev pub IsCheckRefusal : (Alg → List ℕ → List ℕ) → (Question → Verdict) → List ℕ → BuildError → Type 0
 IsCheckRefusal hash said file e = (f : Failing) × IsAnswer hash said file (Answer.Failing f) × (e ≡ ParentFails f.code f.uri)
+
+-- These are the ingredients of a new manifest whose only one is a parent, some manifest; where these manifests have a parent, it is that.
+pub record AreOwnIngredients (hash : List ℕ → List ℕ) (manifests : List Tree) (items : List NewAssertion) : Type 0 where
+  pub parent : NamedManifest
+  pub are : items ≡ ingredient_assertion hash (parent_ingredient parent) ∷ []
+  pub only : (p : NamedManifest) → IsParentOf p manifests → p ≡ parent
 
 -- This is carried of an older store for a definition: it stands for a content, which is the content over that store, where there is
 -- one.

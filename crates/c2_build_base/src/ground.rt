@@ -1,37 +1,41 @@
 // What a new file is built over.
-ghost use Rattle.std.specs.Prelude.{◌≡◌, ℕ, List, IfErr, IfOk, None, Some, Ok, OnOk, map};
+ghost use Rattle.std.specs.Prelude.{◌≡◌, ℕ, List, IfErr, IfOk, None, Some, Ok, OnOk, false, map};
 ghost use Rattle.std.specs.Option.{ForSome};
 ghost use Rattle.c2_base.specs.Source.{ReadsSource};
 ghost use Rattle.c2_base.specs.declared.values.Question.{Question};
 ghost use Rattle.c2_spec.specs.declared.digest.Alg.{Alg as AnyAlg};
 ghost use Rattle.c2_spec.specs.declared.panel.Verdict.{Verdict};
 ghost use Rattle.c2_rules.specs.Asking.{HearsPanel};
+ghost use Rattle.c2_rules.specs.Chains.{LabelsDiffer};
 ghost use Rattle.c2_container.specs.Contained.{HasRootsInside};
 ghost use Rattle.c2_without_store.specs.Clears.{cleared};
 ghost use Rattle.c2_build_refusals.specs.declared.error.BuildError.TheVariants.{LabelTaken};
 ghost use Rattle.c2_spec.specs.C2pa.Manifest.{IsStoreOf, manifests_of};
 ghost use Rattle.c2_spec.specs.Judges.Panel.{panel_says};
 ghost use Rattle.c2_new_file_spec.specs.Built.{HasDigestLen};
+ghost use Rattle.c2_new_file_spec.specs.Manifests.{supers_in};
+ghost use Rattle.c2_new_file_spec.specs.Redacting.{boxes_in, redacted_boxes};
+ghost use Rattle.c2_new_file_spec.specs.Refusing as form;
 ghost use Rattle.c2_new_file_spec.specs.Store.{NamedManifest, ingredient_assertion, new_alg, parent_ingredient};
 ghost use Rattle.c2_parent.specs.Parents.{AreDigests};
 ghost use Rattle.c2_rules.specs.Readings.{AreReadings, Reading};
 ghost use Rattle.c2_validate.specs.Checked.{IsOpenedFrom, StoreAsks};
 ghost use Rattle.c2_build_refusals.specs.Kinds.{ComesAs, IsAskCause, IsOlderQuiet, IsQuiet, WithoutFault, build_heard};
 ghost use Rattle.c2_build_refusals.specs.Stages.{IsGroundStage, MediaKind, fresh};
-ghost use Rattle.c2_build_base.specs.Grounds.{IsCarriedOver, IsCheckRefusal, IsChecked, IsGround, IsKind, IsOver, IsOverRefusal, IsReadIn, IsSomeGround, KindHears};
+ghost use Rattle.c2_build_base.specs.Grounds.{AreOwnIngredients, IsCarriedOver, IsCheckRefusal, IsChecked, IsGround, IsKind, IsOver, IsOverRefusal, IsReadIn, IsSomeGround, KindHears};
 
 use crate::media::{MediaRead, OlderStore};
 use c2_base::{NoMemory, Range, Source, Text};
 use c2_build_refusals::{BuildBase, BuildError, fault};
 use c2_chain::{Chain, of_store, readings};
 use c2_definition::{Definition, NewAssertion};
-use c2_hash::Hashing;
+use c2_hash::{Alg, Hashing};
 use c2_judge::Judge;
 use c2_jumbf::{Tree, count};
 use c2_layout::{Carried, ManifestRefs, ingredient};
 use c2_parent::{
-    ParentDigests, carried_boxes, has_manifest, parent_digests, redactions_of, refused_redaction,
-    refused_without_store,
+    ParentDigests, Redactions, carried_boxes, has_manifest, parent_digests, redactions_of,
+    refused_redaction, refused_without_store,
 };
 use c2_read_manifests::manifests;
 use c2_spec::Relationship;
@@ -128,6 +132,50 @@ fn parent_assertion(alloc: Global, parent: &ParentDigests<'_>) -> Result<NewAsse
     ingredient(alloc, "c2pa.ingredient.v3", Relationship::ParentOf, &refs)
 }
 
+// The ingredients of a new manifest over a store with these redactions: the parent alone.
+fn parent_ingredients<'u, H: Hashing>(
+    alloc: Global,
+    hashing: &H,
+    tree: &'u Tree<'_>,
+    store: &Store,
+    alg: Alg,
+    redactions: &Redactions<'u>,
+) -> Result<Vec<NewAssertion>, NoMemory>
+    requires { IsStoreOf tree.now store.now }
+    ensures { IfOk result (λ list. AreOwnIngredients (H.digest_of alg)
+        (supers_in (redacted_boxes redactions.now (boxes_in tree.now))) list.items) }
+{
+    // Matched and not handed up by `?`: each way out has clauses of its own.
+    let parent = match parent_digests(alloc, hashing, alg, tree, store, redactions) {
+        Ok(parent) => parent,
+        Err(NoMemory) => return Err(NoMemory),
+    };
+    let own = parent_assertion(alloc, &parent)?;
+    let mut ingredients = Vec::new(alloc);
+    ingredients.push(own)?;
+    Ok(ingredients)
+}
+
+// What is taken over of a store with these redactions.
+fn carried_with<'u, H: Hashing>(
+    alloc: Global,
+    hashing: &H,
+    tree: &'u Tree<'_>,
+    store: &Store,
+    definition: &Definition,
+    redactions: &Redactions<'u>,
+) -> Result<Carried, NoMemory>
+    requires store { IsStoreOf tree.now store.now }
+    requires redactions { redactions.now ≡ definition.now.redact }
+    ensures { IfOk result (IsCarriedOver (H.digest_of (new_alg definition.now)) definition.now
+        tree.now) }
+{
+    // The parent first: its contents are let go before the boxes are copied.
+    let ingredients = parent_ingredients(alloc, hashing, tree, store, definition.alg, redactions)?;
+    let boxes = carried_boxes(alloc, tree, redactions)?;
+    Ok(Carried { boxes, ingredients })
+}
+
 // What is taken over of a store.
 fn carried_of<'u, H: Hashing>(
     alloc: Global,
@@ -140,21 +188,33 @@ fn carried_of<'u, H: Hashing>(
     ensures { IfOk result (IsCarriedOver (H.digest_of (new_alg definition.now)) definition.now
         tree.now) }
 {
-    // Matched and not handed up by `?`, here and below: each way out has clauses of its own.
+    // Matched and not handed up by `?`: each way out has clauses of its own.
     let redactions = match redactions_of(alloc, definition.redact.as_slice()) {
         Ok(redactions) => redactions,
         Err(NoMemory) => return Err(NoMemory),
     };
-    // The parent first: its contents are let go before the boxes are copied.
-    let parent = match parent_digests(alloc, hashing, definition.alg, tree, store, &redactions) {
-        Ok(parent) => parent,
-        Err(NoMemory) => return Err(NoMemory),
-    };
-    let own = parent_assertion(alloc, &parent)?;
-    let boxes = carried_boxes(alloc, tree, &redactions)?;
-    let mut ingredients = Vec::new(alloc);
-    ingredients.push(own)?;
-    Ok(Carried { boxes, ingredients })
+    carried_with(alloc, hashing, tree, store, definition, &redactions)
+}
+
+// Refuses a label that a manifest of an older store has, and then the first redaction that can't be made there.
+fn check_over(alloc: Global, chain: &Chain<'_>, definition: &Definition) -> Result<(), BuildError>
+    requires { LabelsDiffer chain.now.readings }
+    ensures passed { OnOk result
+        ((form.has_manifest chain.now.readings definition.now.label ≡ false)
+        × (form.redaction_refusal definition.now.label chain.now.readings definition.now.redact
+        ≡ None)) }
+    ensures refused { IfErr result (IsOverRefusal definition.now chain.now.readings) }
+    ensures quiet { IfErr result IsOlderQuiet }
+{
+    let own = definition.label.as_str();
+    if has_manifest(chain, own) {
+        return Err(label_taken(alloc, definition));
+    }
+    match refused_redaction(alloc, chain, own, definition.redact.as_slice()) {
+        Ok(None) => Ok(()),
+        Ok(Some(taken)) => Err(BuildError::RedactionRefused(taken.text, taken.code)),
+        Err(NoMemory) => Err(BuildError::NoMemory),
+    }
 }
 
 // The ground over a store whose manifests all rules hold of, in a media file that is cleared so of it.
@@ -179,16 +239,9 @@ fn over_store<H: Hashing>(
 {
     // Only the prover needs these laws, and the count: it takes from here that the tree is legal.
     let _boxes = count(&older.tree);
-    let own = definition.label.as_str();
-    if has_manifest(chain, own) {
-        return Err(label_taken(alloc, definition));
-    }
-    match refused_redaction(alloc, chain, own, definition.redact.as_slice()) {
-        Ok(None) => {}
-        Ok(Some(refused)) => {
-            return Err(BuildError::RedactionRefused(refused.text, refused.code));
-        }
-        Err(NoMemory) => return Err(BuildError::NoMemory),
+    match check_over(alloc, chain, definition) {
+        Ok(()) => {}
+        Err(error) => return Err(error),
     }
     let manifests = manifests(readings(chain)).len() as u64 + 1;
     match carried_of(alloc, hashing, &older.tree, &older.store, definition) {

@@ -2,6 +2,7 @@ mod Causes
 mod Drafts
 mod Due
 mod Ended
+mod Filled
 mod Leaving
 mod Planned
 mod Questioned

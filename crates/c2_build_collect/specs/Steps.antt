@@ -18,7 +18,7 @@ use Rattle.c2_container.specs.Contained.{IsWithin}
 use Rattle.c2_container.specs.declared.types.Contained.{Contained}
 use Rattle.c2_build_refusals.specs.Kinds.{WithoutFault}
 use Rattle.c2_build_refusals.specs.Refusals.{Ground}
-use Rattle.c2_build_refusals.specs.Stages.{HasTextsIn, MediaKind}
+use Rattle.c2_build_refusals.specs.Stages.{HasTextsIn, IsDefinitionStage, MediaKind}
 use Rattle.c2_build_refusals.specs.declared.error.BuildError.{BuildError}
 use Rattle.c2_build_refusals.specs.declared.types.Drafted.{Drafted}
 use Rattle.c2_build_base.specs.Grounds.{IsFoundIn, IsKind, IsReadIn}
@@ -31,6 +31,7 @@ use Rattle.c2_build_drafts.specs.declared.ready.DraftedBuild.{DraftedBuild}
 use Rattle.c2_build_collect_base.specs.Errors.{IsRefusedWith, error_of}
 use Rattle.c2_build_collect_base.specs.Grounds.{IsOtherTold, IsParentRefused, opening_of}
 use Rattle.c2_build_collect.specs.Answers.{ForEmbedInputs}
+use Rattle.c2_build_collect.specs.declared.filling.FilledDraft.{FilledDraft}
 
 -- ---- errors
 
@@ -45,10 +46,19 @@ pub record IsFileFound (len : ℕ) (known : Option (List ℕ)) (m : Contained) :
   pub inside : IsWithin len m
   pub found : ForSome known (λ bytes. IsFoundIn bytes m)
 
+-- what was read of a media file whose bytes may be known is of some kind
+abbrev pub IsOfSomeKind : Option (List ℕ) → MediaRead → Type 0
+IsOfSomeKind known m = ForSome known (λ bytes. (kind : MediaKind) × IsKind bytes m kind)
+
 -- What was read of a media file of this length, and a definition that is well formed.
 pub record IsBuildRead (len : ℕ) (m : MediaRead) (d : Definition) : Type 0 where
   pub read : IsReadIn len m
   pub formed : IsWellFormed d
+
+-- This is what a definition file is whose bytes may be known, and so its texts are texts.
+pub record IsDefinitionOf (known : Option (List ℕ)) (d : Definition) : Type 0 where
+  pub stage : ForSome known (λ bytes. IsDefinitionStage bytes (Ok d))
+  pub texts : ForSome known HasTextsIn
 
 -- What holds over the bytes of a media file of which this was read, over what it is opened as, and over the bytes of the other file, where those are
 -- known that are due.
@@ -93,6 +103,11 @@ IsDraftOf hash said media other what d (Ok w) = IsDrafted hash said media other 
 IsDraftOf hash said media other what d (Err e) = IsOfFile d → WithoutFault e (IsRefusedDraft hash said media other what d e)
 
 -- ---- what is drafted with a message
+
+-- what is to be built of a definition with a message, or what is refused
+abbrev pub build_of : Definition → Result FilledDraft BuildError → Result DraftedBuild BuildError
+build_of d (Ok f) = Ok (record { definition = d; drafted = f.drafted; message = f.message })
+build_of d (Err e) = Err e
 
 -- What was drafted over this media file makes a new file that these inputs come to, whatever is put in of its store.
 pub record MakesFile (hash : Alg → List ℕ → List ℕ) (media : List ℕ) (Is : Result NewFile CollectRefusal → Type 0) (b : DraftedBuild) : Type 0 where

@@ -22,6 +22,19 @@ use c2_hash::Hashing;
 use c2_judge::Judge;
 use std::alloc::Global;
 
+/// What builds are drafted with, once the media file is read.
+#[derive(Drop)]
+pub(crate) struct Drafter<'b, 't, H> {
+    /// What takes memory.
+    pub(crate) alloc: Global,
+
+    /// What makes digests.
+    pub(crate) hashing: &'b H,
+
+    /// What was read of the media file.
+    pub(crate) file: &'b MediaRead<'t>,
+}
+
 /// What a build is made of, once the media file and the definition are read.
 #[derive(Drop)]
 pub(crate) struct Build<'b, 't, H> {
@@ -35,7 +48,7 @@ pub(crate) struct Build<'b, 't, H> {
     pub(crate) file: &'b MediaRead<'t>,
 
     /// The definition.
-    pub(crate) definition: Definition,
+    pub(crate) definition: &'b Definition,
 }
 
 impl<'b, 't, H: Hashing> Build<'b, 't, H> {
@@ -48,13 +61,13 @@ impl<'b, 't, H: Hashing> Build<'b, 't, H> {
     ) -> Result<Drafted, BuildError>
         requires { IsReadIn (A.len media.old) self.now.file.now }
         ensures drafted { let said = panel_says (map says judges.old.items) in
-            let d = self.now.definition in
+            let d = self.now.definition.now in
             ForFiles H.digest_of said (A.known media.old) (D.known other.old) self.now.file.now
             (λ bytes what others. IsDraftOf H.digest_of said bytes others what d result) }
         ensures not_due { let said = panel_says (map says judges.old.items) in
             LeavesOther H.digest_of said (A.known media.old) self.now.file.now
             other.old other.new }
-        ensures small { let d = self.now.definition in
+        ensures small { let d = self.now.definition.now in
             IfOk result (λ w. IsSmall (H.digest_of (new_alg d))
             (cleared_len w.ground.clearing (A.len media.old)) d w) }
         ensures media { ReadsSource A.len A.known A.faults
@@ -70,13 +83,13 @@ impl<'b, 't, H: Hashing> Build<'b, 't, H> {
         let collector = Collector {
             alloc: self.alloc,
             hashing: self.hashing,
-            definition: &self.definition,
+            definition: self.definition,
         };
         // Matched and not handed up by `?`: each way out has clauses of its own.
         let ground = match collector.ground(media, self.file, other, judges) {
             Ok(ground) => ground,
             Err(error) => return Err(error),
         };
-        draft_in_place(self.alloc, self.file.contained, &self.definition, ground)
+        draft_in_place(self.alloc, self.file.contained, self.definition, ground)
     }
 }

@@ -16,10 +16,8 @@ use c2_build_drafts::{DraftedBuild, make_ready};
 use c2_build_in_place::{Ready, write_file};
 use c2_build_refusals::{BuildError, Embedded};
 use c2_build_writing::copy_fault;
-use c2_definition::each_definition_is_read_one_way;
 use c2_hash::Hashing;
 use c2_judge::Judge;
-use c2_validate::one_opening;
 use std::alloc::Global;
 
 impl<'h, H: Hashing> Maker<'h, H> {
@@ -49,7 +47,6 @@ impl<'h, H: Hashing> Maker<'h, H> {
             H.digest_of (A.known media.old) (B.known definition.old) (C.known signature.old)
             (D.known other.old)) judges.old judges.new result }
     {
-        one_opening();
         let file = match open_media(self.alloc, media) {
             Ok(file) => file,
             Err(error) => return Err(error),
@@ -146,7 +143,6 @@ pub fn embed_collect<A: Source, B: Source, C: Source, D: Source, K: Sink, H: Has
         H.digest_of (A.known media.old) (B.known definition.old) (C.known signature.old)
         (D.known other.old)) judges.old judges.new result }
 {
-    each_definition_is_read_one_way();
     let maker = Maker { alloc, hashing };
     let ready = match maker.prepare(media, definition, signature, other, judges) {
         Ok(ready) => ready,

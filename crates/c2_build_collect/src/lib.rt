@@ -8,6 +8,7 @@
 mod asking;
 mod drafting;
 mod embedding;
+mod filling;
 mod planning;
 mod ready;
 

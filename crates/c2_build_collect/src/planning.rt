@@ -7,22 +7,21 @@ ghost use Rattle.c2_spec.specs.Judges.Panel.{panel_says};
 ghost use Rattle.c2_rules.specs.Asking.{HearsPanel};
 ghost use Rattle.c2_collect_spec.specs.Outcomes.{IsCollectPlanned, IsPairStage, IsPlannedOver, Then};
 ghost use Rattle.c2_build_refusals.specs.Kinds.{build_heard};
+ghost use Rattle.c2_build_base.specs.Grounds.{IsReadIn};
 ghost use Rattle.c2_build_in_place.specs.Numbers.{IsOfFile};
 ghost use Rattle.c2_build_collect_base.specs.Errors.{IsAnswerTo};
 ghost use Rattle.c2_build_collect_base.specs.Grounds.{IsGroundCause, PairHears};
 ghost use Rattle.c2_build_collect.specs.Answers.{AsksPlanned, ForPlanInputs, LeavesPlanUndue, ReadsPlannedPair};
-ghost use Rattle.c2_build_collect.specs.Steps.{ForFiles, IsBuildRead, IsFileFound, LeavesOther};
+ghost use Rattle.c2_build_collect.specs.Steps.{ForFiles, IsBuildRead, IsFileFound, IsOfSomeKind, LeavesOther};
 
-use crate::drafting::Build;
+use crate::drafting::{Build, Drafter};
 use crate::ready::Builder;
 use c2_base::{Blob, Source};
 use c2_build_base::{open_media, read_media};
 use c2_build_drafts::signed_draft;
 use c2_build_refusals::{BuildError, read_definition_file};
-use c2_definition::each_definition_is_read_one_way;
 use c2_hash::Hashing;
 use c2_judge::Judge;
-use c2_validate::one_opening;
 use std::alloc::Global;
 
 impl<'b, 't, H: Hashing> Build<'b, 't, H> {
@@ -33,9 +32,9 @@ impl<'b, 't, H: Hashing> Build<'b, 't, H> {
         other: &mut D,
         judges: &mut Vec<Box<dyn Judge>>,
     ) -> Result<Blob, BuildError>
-        requires { IsBuildRead (A.len media.old) self.now.file.now self.now.definition }
+        requires { IsBuildRead (A.len media.old) self.now.file.now self.now.definition.now }
         ensures planned { let said = panel_says (map says judges.old.items) in
-            let d = self.now.definition in
+            let d = self.now.definition.now in
             IsOfFile d → ForFiles H.digest_of said (A.known media.old) (D.known other.old)
             self.now.file.now (λ bytes what others. IsAnswerTo (Then
             (IsPairStage H.digest_of said bytes others what d) (IsPlannedOver H.digest_of d))
@@ -58,7 +57,47 @@ impl<'b, 't, H: Hashing> Build<'b, 't, H> {
             Ok(drafted) => drafted,
             Err(error) => return Err(error),
         };
-        signed_draft(self.alloc, self.hashing, media, &self.definition, &drafted)
+        signed_draft(self.alloc, self.hashing, media, self.definition, &drafted)
+    }
+}
+
+impl<'b, 't, H: Hashing> Drafter<'b, 't, H> {
+    // What is to be signed over a media file that was read, of a definition file and of another file.
+    fn plan<A: Source, B: Source, D: Source>(
+        &self,
+        media: &mut A,
+        definition: &mut B,
+        other: &mut D,
+        judges: &mut Vec<Box<dyn Judge>>,
+    ) -> Result<Blob, BuildError>
+        requires inside { IsReadIn (A.len media.old) self.now.file.now }
+        requires kind { IsOfSomeKind (A.known media.old) self.now.file.now }
+        ensures planned { let said = panel_says (map says judges.old.items) in
+            ForPlanInputs H.digest_of said (A.known media.old) (B.known definition.old)
+            (D.known other.old) (λ file bytes others.
+            IsAnswerTo (IsCollectPlanned H.digest_of said file bytes others) result) }
+        ensures not_due { let said = panel_says (map says judges.old.items) in
+            LeavesPlanUndue H.digest_of said (A.known media.old) (B.known definition.old)
+            definition.old definition.new other.old other.new }
+        ensures sources { ReadsPlannedPair IsGroundCause
+            (use_of A.len A.known A.faults media.old media.new)
+            (use_of B.len B.known B.faults definition.old definition.new)
+            (use_of D.len D.known D.faults other.old other.new) result }
+        ensures panel { HearsPanel says asked_times judge_faults build_heard (AsksPlanned
+            H.digest_of (A.known media.old) (B.known definition.old) (D.known other.old))
+            judges.old judges.new result }
+    {
+        let definition = match read_definition_file(self.alloc, definition) {
+            Ok(definition) => definition,
+            Err(error) => return Err(error),
+        };
+        let build = Build {
+            alloc: self.alloc,
+            hashing: self.hashing,
+            file: self.file,
+            definition: &definition,
+        };
+        build.planned(media, other, judges)
     }
 }
 
@@ -87,23 +126,16 @@ impl<'b, H: Hashing> Builder<'b, H> {
             H.digest_of (A.known media.old) (B.known definition.old) (D.known other.old))
             judges.old judges.new result }
     {
-        one_opening();
-        each_definition_is_read_one_way();
         let read = match read_media(self.alloc, self.file) {
             Ok(read) => read,
             Err(error) => return Err(error),
         };
-        let definition = match read_definition_file(self.alloc, definition) {
-            Ok(definition) => definition,
-            Err(error) => return Err(error),
-        };
-        let build = Build {
+        let drafter = Drafter {
             alloc: self.alloc,
             hashing: self.hashing,
             file: &read,
-            definition,
         };
-        build.planned(media, other, judges)
+        drafter.plan(media, definition, other, judges)
     }
 }
 

@@ -1,5 +1,6 @@
 -- What each of both files is to a new store that collects, by what its check answered.
 use Rattle.c2_opening.proofs.TheLaws.{one_opening_file}
+use Rattle.c2_read_manifests.proofs.TheLaws.{one_reading_file}
 use Rattle.std.proofs.Common.{◌≡◌, ℕ, List, [], ◌∷◌, length, Option, None, Some, refl, sym, ap, ◌∙◌, subst}
 use Rattle.std.specs.Prelude.{Err, Ok, Result, option_map}
 use Rattle.std.specs.Option.{option_to_list}
@@ -25,7 +26,6 @@ use Rattle.c2_without_store.specs.declared.clearing.Clearing.{Clearing}
 use Rattle.c2_new_file_spec.specs.Bases.{IsLeft}
 use Rattle.c2_collect_spec.specs.Order.{CollectRefusal, IsMediaFile, IsOtherFile, IsValidAnswer, MediaFile, OtherFile, other_refusals, other_refused, parent_fails, parent_refusals}
 use Rattle.c2_collect_spec.specs.Outcomes.{IsOtherStage, IsParentStage, Unless}
-use Rattle.c2_collect_spec.proofs.OneOutcome.{one_store_reading}
 use Rattle.c2_collect_spec.proofs.Order.{IsOtherStore, media_store, other_store}
 use Rattle.c2_collect_spec.proofs.Stages.{unless_passes}
 use Rattle.c2_collect_spec.proofs.Stores.{none_rooted}
@@ -206,7 +206,7 @@ stored_passes readings law hash said file older s clearing same opened left chec
   };
   only = λ r.
       let one_read : r.1.1.reading ≡ past.reading =
-      one_store_reading file t r.1.1.reading past.reading r.1.1.reads past.reads in
+      one_reading_file file t r.1.1.reading past.reading r.1.1.reads past.reads in
       not_refused r.1.0 r.0 (no_refusals r.1.0.failing (r.1.1.failing ∙ ap (λ (x : StoreReading). first_failing (check_list hash said x)) one_read ∙ past.none)) r.1.2;
 }
   where
@@ -273,7 +273,7 @@ parent_only hash said file start len t e opened r m stage =
     let s : StoreReading = a.0 in
     let failing : Option Failing = first_failing (check_list hash said s) in
     let fails : failing ≡ Some r.0 = told (summary_of (length file) start len s) r.0 failing a.2 in
-    let same : stage.1.reading ≡ s = one_store_reading file t stage.1.reading s stage.1.reads a.1 in
+    let same : stage.1.reading ≡ s = one_reading_file file t stage.1.reading s stage.1.reads a.1 in
     let refusals : parent_refusals stage.0 ≡ parent_fails r.0 ∷ [] =
     ap (λ (x : Option Failing). option_to_list (option_map parent_fails x)) (stage.1.failing ∙ ap (λ (x : StoreReading). first_failing (check_list hash said x)) same ∙ fails) in
     not_both m (parent_fails r.0)

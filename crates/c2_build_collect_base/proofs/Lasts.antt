@@ -6,7 +6,7 @@ use Rattle.std.proofs.lemmas.List.{length-map}
 use Rattle.std.proofs.lemmas.Option.{same_Some, slice_get_within}
 use Rattle.std.proofs.lemmas.Slice.Eq.{bytes_eq-Decides}
 use Rattle.c2_spec.specs.C2pa.Manifest.{is_given}
-use Rattle.c2_spec.specs.Jumbf.Tree.{Tree, Trees, leaf, more, none, super, tree_bytes, tree_label}
+use Rattle.c2_spec.specs.Jumbf.Tree.{Tree, Trees, more, none, tree_bytes, tree_label}
 use Rattle.c2_spec.specs.declared.digest.Alg.{Alg}
 use Rattle.c2_rules.specs.Chains.{is_active, is_reached, label_in, place_of}
 use Rattle.c2_rules.specs.Readings.{Reading}
@@ -14,7 +14,7 @@ use Rattle.c2_rules.proofs.ListLemmas.{from_any}
 use Rattle.c2_rules.proofs.ReachLemmas.{place_is}
 use Rattle.c2_chain_spec.specs.Joined.{place_in}
 use Rattle.c2_chain_spec.specs.Rooted.{last_roots}
-use Rattle.c2_chain_spec.proofs.Places.{get_left, member_of, picked_at, to_right}
+use Rattle.c2_chain_spec.proofs.Places.{get_left, picked_at, to_right}
 use Rattle.c2_new_file_spec.specs.Manifests.{is_super, supers_in}
 use Rattle.c2_new_file_spec.specs.Store.{NamedManifest}
 use Rattle.c2_new_file_spec.specs.Written.{IsStoreBox}
@@ -30,9 +30,10 @@ use Rattle.c2_collect_spec.proofs.Stores.{label_there}
 use Rattle.c2_collect_spec.proofs.Zips.{Reads, ZipAt, all_picked, are_supers, higher, reads_zip, then_supers, zip_at}
 use Rattle.c2_build_collect_base.specs.Steps.{left_in}
 use Rattle.c2_lemmas.proofs.Bools.{and_true, both_true}
-use Rattle.c2_lemmas.proofs.Each.{at_contains, contains_at, zip_length}
+use Rattle.c2_lemmas.proofs.Each.{at_contains, contains_at, member_of, zip_length}
 use Rattle.c2_lemmas.proofs.Options.{some_at}
 use Rattle.c2_new_content_spec.proofs.OverWhole.{last_place}
+use Rattle.c2_new_file_spec.proofs.Taken.{redacted_super}
 use Rattle.c2_new_file_spec.proofs.Valid.{last_reached}
 use Rattle.c2_spec.proofs.GivenLabels.{given_is}
 use Rattle.c2_spec.proofs.JumbfOneTree.{spells_once}
@@ -156,11 +157,6 @@ last_root hash old other old_rs other_rs can =
     }
 
 -- ---- what is left of them
-
--- a box stays a superbox or none
-redacted_super : (redacts : List (List ℕ)) (u : Tree) → is_super (redacted_box redacts u) ≡ is_super u
-redacted_super redacts (leaf b) = refl
-redacted_super redacts (super wide d us) = refl
 
 -- a manifest is left of each
 supers_redacted : (redacts : List (List ℕ)) (ts : Trees)

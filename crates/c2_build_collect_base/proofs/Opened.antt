@@ -1,4 +1,5 @@
 -- What another file is opened as, by what calls of other crates answered.
+use Rattle.c2_opening.proofs.TheLaws.{here_tree}
 use Rattle.std.proofs.Common.{◌≡◌, ℕ, List, refl, subst}
 use Rattle.c2_base.specs.declared.media.Found.{Found}
 use Rattle.c2_spec.specs.Jumbf.Tree.{Tree}
@@ -17,7 +18,7 @@ use Rattle.c2_opening.specs.declared.types.StoreRead.TheVariants as read
 use Rattle.c2_build_refusals.specs.Kinds.{fault_of, kind_of}
 use Rattle.c2_build_refusals.specs.declared.error.BuildError.TheVariants.{OtherRefused}
 use Rattle.c2_build_refusals.proofs.Outside.{plain_read}
-use Rattle.c2_build_base.proofs.Opened.{here_tree, opening_cause}
+use Rattle.c2_build_base.proofs.Opened.{opening_cause}
 use Rattle.c2_build_collect_base.specs.Steps.{IsFoundThere, IsOpeningError, IsOtherCause, IsReadThere, other_effects}
 
 -- a refused file

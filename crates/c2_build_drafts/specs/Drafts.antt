@@ -91,3 +91,8 @@ abbrev pub IsReadyOf : (Alg → List ℕ → List ℕ) → Option (List ℕ) →
 IsReadyOf hash known b r =
     ForSome known (λ media. (g : Ground) (p : Place) → IsOver (hash (new_alg b.definition)) media b.definition b.drafted g p
     → IsPutReady (hash (new_alg b.definition)) media g p b.message r)
+
+-- this is the new store of what was drafted: what is to be put in with it by the same numbers is ready
+abbrev pub IsStoreFor : (Alg → List ℕ → List ℕ) → Option (List ℕ) → DraftedBuild → List ℕ → Type 0
+IsStoreFor hash known b store =
+    (r : Ready) → r.store ≡ store → r.draft ≡ b.drafted.draft → r.clearing ≡ b.drafted.ground.clearing → IsReadyOf hash known b r

@@ -1,9 +1,10 @@
 // What is ready to be written of what was drafted, before anything is.
-ghost use Rattle.std.specs.Prelude.{IfErr, IfOk};
+ghost use Rattle.std.specs.Prelude.{◌<◌, IfErr, IfOk, length};
 ghost use Rattle.c2_base.specs.Source.{ReadsSource};
+ghost use Rattle.c2_spec.specs.Jpeg.Writing.{IsPacketStore};
 ghost use Rattle.c2_build_refusals.specs.Kinds.{IsReadCause, SaysNothing};
 ghost use Rattle.c2_build_in_place.specs.Writings.{CanWrite};
-ghost use Rattle.c2_build_drafts.specs.Drafts.{FitsMedia, IsReadyOf};
+ghost use Rattle.c2_build_drafts.specs.Drafts.{FitsMedia, IsReadyOf, IsStoreFor};
 
 use c2_base::limits::PIECE_LEN;
 use c2_base::{Blob, NoMemory, Source};
@@ -28,6 +29,62 @@ pub struct DraftedBuild {
     pub message: Blob,
 }
 
+// The new store of what was drafted over a media file, which is read through a buffer that isn't empty.
+fn made_store<A: Source, H: Hashing>(
+    alloc: Global,
+    hashing: &H,
+    media: &mut A,
+    build: &DraftedBuild,
+    buffer: &mut [u8],
+) -> Result<Blob, BuildError>
+    requires fits { FitsMedia H.digest_of (A.len media.old) build.now }
+    requires room { 0 < length buffer.old }
+    ensures made { IfOk result (IsStoreFor H.digest_of (A.known media.old) build.now) }
+    ensures packs { IfOk result IsPacketStore }
+    ensures nothing { IfErr result SaysNothing }
+    ensures reads { ReadsSource A.len A.known A.faults IsReadCause media.old media.new result }
+{
+    let definition = &build.definition;
+    let drafted = &build.drafted;
+    // Matched and not handed up by `?`, here and below: each way out has clauses of its own.
+    let parts = match parts_for(alloc, hashing, media, definition, drafted, buffer) {
+        Ok(parts) => parts,
+        Err(error) => return Err(error),
+    };
+    let message = build.message.as_slice();
+    match new_store(alloc, definition, &drafted.ground.carried, &parts, message) {
+        Ok(store) => Ok(store),
+        Err(NoMemory) => Err(BuildError::NoMemory),
+    }
+}
+
+// What is to be written, of what was drafted over a media file that is lent.
+fn ready_of<A: Source, H: Hashing>(
+    alloc: Global,
+    hashing: &H,
+    media: &mut A,
+    build: &DraftedBuild,
+) -> Result<Ready, BuildError>
+    requires { FitsMedia H.digest_of (A.len media.old) build.now }
+    ensures ready { IfOk result (IsReadyOf H.digest_of (A.known media.old) build.now) }
+    ensures nothing { IfErr result SaysNothing }
+    ensures can_write { IfOk result (CanWrite (A.len media.old)) }
+    ensures reads { ReadsSource A.len A.known A.faults IsReadCause media.old media.new result }
+{
+    let Ok(mut buffer) = vec![in alloc; 0u8; PIECE_LEN] else {
+        return Err(BuildError::NoMemory);
+    };
+    match made_store(alloc, hashing, media, build, &mut buffer) {
+        Ok(store) => Ok(Ready {
+            store,
+            draft: build.drafted.draft,
+            clearing: build.drafted.ground.clearing,
+            buffer,
+        }),
+        Err(error) => Err(error),
+    }
+}
+
 /// What is to be written, of what was drafted over a media file. What was taken over of older stores is let go once the new one holds it.
 /// The media is read in pieces. `ReadFault` comes only where its count of faults rose in this call, and `NoMemory` where memory ran out.
 pub fn make_ready<A: Source, H: Hashing>(
@@ -42,24 +99,5 @@ pub fn make_ready<A: Source, H: Hashing>(
     ensures can_write { IfOk result (CanWrite (A.len media.old)) }
     ensures reads { ReadsSource A.len A.known A.faults IsReadCause media.old media.new result }
 {
-    let definition = &build.definition;
-    let drafted = &build.drafted;
-    let Ok(mut buffer) = vec![in alloc; 0u8; PIECE_LEN] else {
-        return Err(BuildError::NoMemory);
-    };
-    // Matched and not handed up by `?`, here and below: each way out has clauses of its own.
-    let parts = match parts_for(alloc, hashing, media, definition, drafted, &mut buffer) {
-        Ok(parts) => parts,
-        Err(error) => return Err(error),
-    };
-    let message = build.message.as_slice();
-    match new_store(alloc, definition, &drafted.ground.carried, &parts, message) {
-        Ok(store) => Ok(Ready {
-            store,
-            draft: drafted.draft,
-            clearing: drafted.ground.clearing,
-            buffer,
-        }),
-        Err(NoMemory) => Err(BuildError::NoMemory),
-    }
+    ready_of(alloc, hashing, media, &build)
 }

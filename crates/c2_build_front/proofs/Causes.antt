@@ -5,7 +5,7 @@ use Rattle.c2_base.specs.Source.{ReadsSource}
 use Rattle.std.specs.declared.option.Option.{Option}
 use Rattle.c2_build_refusals.proofs.Doing.{DoesNoMore, more_read}
 use Rattle.c2_build_refusals.proofs.Outside.{read_cause}
-use Rattle.c2_build_refusals.specs.Kinds.{Effects, ErrorKind, IsQuietKind, IsReadKind, IsSourceCause, front_refusal, judge_fault, kind_of, message_effects, message_refusal, no_memory, older_refusal, other_refusal, read_fault, refusal, write_fault}
+use Rattle.c2_build_refusals.specs.Kinds.{Effects, ErrorKind, IsQuietKind, IsReadKind, IsSourceCause, front_refusal, judge_fault, kind_of, message_refusal, no_memory, older_refusal, other_refusal, read_fault, refusal, write_fault}
 use Rattle.c2_build_refusals.specs.declared.error.BuildError.{BuildError}
 use Rattle.c2_build_front.specs.Answers.{embed_effects, plan_effects, prepare_effects}
 
@@ -26,12 +26,6 @@ pub plan_prepares : (m n : ℕ) (k : ErrorKind) → IsReadKind plan_effects m n 
 plan_prepares =
     more_read plan_effects prepare_effects
     (record { message = λ h. tt; judges = λ h. h; writes = λ h. h; tables = λ h. h; older = λ h. h; other = λ h. h })
-
--- a step that looks at a message is one before a file is written
-pub message_prepares : (m n : ℕ) (k : ErrorKind) → IsReadKind message_effects m n k → IsReadKind prepare_effects m n k
-message_prepares =
-    more_read message_effects prepare_effects
-    (record { message = λ h. h; judges = λ h. h; writes = λ h. h; tables = λ h. tt; older = λ h. h; other = λ h. h })
 
 -- what is done before a file is written is done by what writes it
 pub prepares : DoesNoMore prepare_effects embed_effects

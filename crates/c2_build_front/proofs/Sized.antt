@@ -6,6 +6,7 @@ use Rattle.c2_spec.specs.Digest.{digest_len}
 use Rattle.c2_spec.specs.Jumbf.Tree.{tree_bytes}
 use Rattle.c2_spec.specs.declared.digest.Alg.{Alg}
 use Rattle.c2_spec.proofs.Digests.{zero_len}
+use Rattle.c2_definition.specs.DefinitionFile.{IsDefinition}
 use Rattle.c2_definition.specs.declared.types.Definition.{Definition}
 use Rattle.c2_new_file_spec.specs.Built.{HasDigestLen, bound_len, no_digest}
 use Rattle.c2_new_file_spec.specs.Fresh.{fresh_content}
@@ -16,9 +17,9 @@ use Rattle.c2_new_file_spec.specs.Films.{BmffSizeIsFixed, new_bmff_binding, bmff
 use Rattle.c2_layout.specs.Parts.{IsContent}
 use Rattle.c2_layout.specs.declared.carried.Carried.{Carried}
 use Rattle.c2_new_lengths_spec.specs.Lengths.{StoresFit}
-use Rattle.c2_new_front_spec.proofs.SomeOutcome.{defined_of}
+use Rattle.c2_lemmas.proofs.Stages.{stage_value}
 use Rattle.c2_build_refusals.specs.Stages.{IsDefinitionStage}
-use Rattle.c2_build_front.proofs.Stages.{defined_as}
+use Rattle.c2_build_refusals.specs.declared.error.BuildError.TheVariants.{BadDefinition}
 use Rattle.c2_build_front.specs.Steps.{HasSize, store_size}
 
 -- the content of a definition alone
@@ -55,4 +56,5 @@ sized_is boxes parts size none all = omega (arith, none, all)
 -- 64 bits hold the length of the new store of a definition that a file is
 pub has_size : StoresFit → (file : List ℕ) (d : Definition) → IsDefinitionStage file (Ok d) → HasSize d
 has_size law file d stage =
-    (law file (fresh_content d) (defined_of file d (defined_as file d stage)) (record { boxes = lit≤ tt; ingredients = no_ingredients; labels = tt })).film
+    (law file (fresh_content d) (stage_value BadDefinition (IsDefinition file) d stage)
+    (record { boxes = lit≤ tt; ingredients = no_ingredients; labels = tt })).film

@@ -25,7 +25,7 @@ use Rattle.c2_bmff_binding_front.specs.declared.front.Front.{Front}
 use Rattle.c2_new_front_spec.specs.Fronts.{front_covered, tables_of}
 use Rattle.c2_new_front_spec.specs.InFront.{front_place}
 use Rattle.c2_new_front_spec.specs.Order.{CanPlanFront, FrontRefusal, bmff_refusals, plan_refusals}
-use Rattle.c2_new_front_spec.specs.Outcomes.{IsFrontMade, NewFile}
+use Rattle.c2_new_front_spec.specs.Outcomes.{IsBmffStage, IsFrontMade, IsMadeIn, IsMessageStage, NewFile, Then}
 use Rattle.c2_build_refusals.specs.Kinds.{IsReadKind, WithoutFault, kind_of}
 use Rattle.c2_build_refusals.specs.Stages.{HasTextsIn, IsDefinitionTold, IsMessageTold}
 use Rattle.c2_build_refusals.specs.declared.error.BuildError.{BuildError}
@@ -142,6 +142,11 @@ CanWrite len r = CanWriteFront len r.front r.store (vec_len r.buffer)
 abbrev pub IsReadyFor : List ℕ → (Result NewFile FrontRefusal → Type 0) → Result Ready BuildError → Type 0
 IsReadyFor media Is (Ok r) = (b : NewFile) × Is (Ok b) × IsReady media r b
 IsReadyFor media Is (Err e) = WithoutFault e (IsRefusedWith Is e)
+
+-- what a build comes to over a media file that is opened so, with a definition that was read and this file of a signed message
+abbrev pub IsMadeSigned : (Alg → List ℕ → List ℕ) → List ℕ → Definition → List ℕ → Opening Tree → Result NewFile FrontRefusal → Type 0
+IsMadeSigned hash media d message what =
+    Then (IsMessageStage d.protected message) (λ parts. Then (IsBmffStage media what) (IsMadeIn hash media d parts))
 
 -- What was prepared of a media file of this length, of a definition file and of a message file: over known bytes what they come to, ready to
 -- be written, and that the texts of the definition are texts; and of all files that the new file can be written.

@@ -5,17 +5,21 @@ ghost use Rattle.c2_base.specs.Source.{ReadsSource};
 ghost use Rattle.c2_container.specs.Contained.{IsWithin};
 ghost use Rattle.c2_build_endings.specs.Sources.{ReadsPlanned, use_of};
 ghost use Rattle.c2_definition.specs.DefinitionFile.{IsWellFormed};
+ghost use Rattle.c2_bmff_binding_front.specs.Putting.{FitsIn};
 ghost use Rattle.c2_new_front_spec.specs.Outcomes.{IsBmffStage, IsFrontPlanned, IsPlannedIn, Then};
 ghost use Rattle.c2_build_base.specs.Grounds.{IsFoundIn, IsKind, IsReadIn};
 ghost use Rattle.c2_build_refusals.specs.Stages.{IsDefinitionTold, IsMediaRefused, MediaKind};
+ghost use Rattle.c2_spec.specs.Jumbf.Tree.{Tree};
+ghost use Rattle.c2_spec.specs.Located.{Opening};
 ghost use Rattle.c2_build_front.specs.Answers.{IsPlanCause};
 ghost use Rattle.c2_build_front.specs.Errors.{IsAnswerTo};
-ghost use Rattle.c2_build_front.specs.Steps.{HasSize, IsPlanStep};
+ghost use Rattle.c2_build_front.specs.Steps.{HasSize, IsDraftedOver, IsPlanStep, store_size};
 
 use crate::drafting::drafted;
 use crate::parts::parts_over;
 use c2_base::limits::PIECE_LEN;
 use c2_base::{Blob, NoMemory, Source};
+use c2_bmff_binding_front::Front;
 use c2_build_base::{MediaRead, open_media, read_media};
 use c2_build_refusals::{BuildError, read_definition_file, signed_over};
 use c2_container::Contained;
@@ -23,6 +27,37 @@ use c2_definition::{Definition, each_definition_is_read_one_way};
 use c2_hash::Hashing;
 use c2_validate::one_opening;
 use std::alloc::Global;
+
+// What is to be signed, of what was drafted over a media file.
+fn plan_with<A: Source, H: Hashing>(
+    alloc: Global,
+    hashing: &H,
+    media: &mut A,
+    front: &Front,
+    definition: &Definition,
+) -> Result<Blob, BuildError>
+    requires formed { IsWellFormed definition.now }
+    requires fits { FitsIn (A.len media.old) front.now }
+    requires store { front.now.store_len ≡ store_size definition.now }
+    ensures planned { ForSome (A.known media.old) (λ file. (what : Opening Tree)
+        → IsDraftedOver file what definition.now front.now
+        → IsAnswerTo (Then (IsBmffStage file what)
+        (IsPlannedIn H.digest_of file definition.now)) result) }
+    ensures reads { ReadsSource A.len A.known A.faults IsPlanStep media.old media.new result }
+{
+    let Ok(mut buf) = vec![in alloc; 0u8; PIECE_LEN] else {
+        return Err(BuildError::NoMemory);
+    };
+    // Matched and not handed up by `?`, here and below: each way out has clauses of its own.
+    let parts = match parts_over(alloc, hashing, media, front, definition, &mut buf) {
+        Ok(parts) => parts,
+        Err(error) => return Err(error),
+    };
+    match signed_over(alloc, definition, parts.claim.as_slice()) {
+        Ok(tbs) => Ok(tbs),
+        Err(NoMemory) => Err(BuildError::NoMemory),
+    }
+}
 
 // What is to be signed, where this was read of a media file, of a definition.
 fn plan_over<A: Source, H: Hashing>(
@@ -40,22 +75,11 @@ fn plan_over<A: Source, H: Hashing>(
         (IsPlannedIn H.digest_of bytes definition.now)) result) }
     ensures reads { ReadsSource A.len A.known A.faults IsPlanStep media.old media.new result }
 {
-    // Matched and not handed up by `?`, here and below: each way out has clauses of its own.
     let front = match drafted(alloc, media, file, definition) {
         Ok(front) => front,
         Err(error) => return Err(error),
     };
-    let Ok(mut buf) = vec![in alloc; 0u8; PIECE_LEN] else {
-        return Err(BuildError::NoMemory);
-    };
-    let parts = match parts_over(alloc, hashing, media, &front, definition, &mut buf) {
-        Ok(parts) => parts,
-        Err(error) => return Err(error),
-    };
-    match signed_over(alloc, definition, parts.claim.as_slice()) {
-        Ok(tbs) => Ok(tbs),
-        Err(NoMemory) => Err(BuildError::NoMemory),
-    }
+    plan_with(alloc, hashing, media, &front, definition)
 }
 
 // What is to be signed, where this was found of a media file, of a definition file.

@@ -1,6 +1,7 @@
 // What is ready to be written in front of a film, before anything is.
 ghost use Rattle.std.specs.Prelude.{◌≡◌, IfErr, IfOk, length};
 ghost use Rattle.std.specs.Option.{ForSome};
+ghost use Rattle.c2_base.specs.Causes.{Rose};
 ghost use Rattle.c2_base.specs.Source.{ReadsSource};
 ghost use Rattle.c2_container.specs.Contained.{IsWithin};
 ghost use Rattle.c2_build_endings.specs.Sources.{ReadsSigned, use_of};
@@ -16,7 +17,7 @@ ghost use Rattle.c2_spec.specs.Cbor.Item.{Pairs};
 ghost use Rattle.c2_spec.specs.Jumbf.Tree.{Tree};
 ghost use Rattle.c2_spec.specs.Located.{Opening};
 ghost use Rattle.c2_build_front.specs.Answers.{IsPrepareCause};
-ghost use Rattle.c2_build_front.specs.Steps.{CanWrite, HasSize, IsDraftedOver, IsPlanStep, IsPrepareStep, IsPrepared, IsReady, IsReadyFor, store_size};
+ghost use Rattle.c2_build_front.specs.Steps.{CanWrite, HasSize, IsDraftedOver, IsMadeSigned, IsPlanStep, IsPrepareStep, IsPrepared, IsReady, IsReadyFor, store_size};
 
 use crate::drafting::drafted;
 use crate::parts::parts_over;
@@ -136,6 +137,64 @@ impl<'h, H: Hashing> Builder<'h, H> {
         }
     }
 
+    // What is to be written, where this was read of a media file, with a definition and a message file.
+    fn ready_signed<A: Source, C: Source>(
+        &self,
+        media: &mut A,
+        file: &MediaRead<'_>,
+        definition: &Definition,
+        signature: &mut C,
+    ) -> Result<Ready, BuildError>
+        requires formed { IsWellFormed definition.now }
+        requires read { IsReadIn (A.len media.old) file.now }
+        ensures ready { ForSome (A.known media.old) (λ bytes. (kind : MediaKind)
+            → (is : IsKind bytes file.now kind) → HasSize definition.now
+            → ForSome (C.known signature.old) (λ message. IsReadyFor bytes
+            (IsMadeSigned H.digest_of bytes definition.now message is.stage.0) result)) }
+        ensures can_write { IfOk result (CanWrite (A.len media.old)) }
+        ensures media { ReadsSource A.len A.known A.faults
+            (IsPrepareCause (Rose (C.faults signature.old) (C.faults signature.new)))
+            media.old media.new result }
+        ensures message { ReadsSource C.len C.known C.faults
+            (IsPrepareCause (Rose (A.faults media.old) (A.faults media.new)))
+            signature.old signature.new result }
+    {
+        one_item();
+        each_message_is_accepted_or_refused_for_one_test();
+        let sign = match read_message_file(self.alloc, definition.protected.as_slice(), signature) {
+            Ok(sign) => sign,
+            Err(error) => return Err(error),
+        };
+        self.ready_over(media, file, definition, &sign)
+    }
+
+    // What is to be written, where this was read of a media file, with a definition file and a message file.
+    fn ready_of<A: Source, B: Source, C: Source>(
+        &self,
+        media: &mut A,
+        file: &MediaRead<'_>,
+        definition: &mut B,
+        signature: &mut C,
+    ) -> Result<Ready, BuildError>
+        requires read { IsReadIn (A.len media.old) file.now }
+        requires kind { ForSome (A.known media.old)
+            (λ bytes. (kind : MediaKind) × IsKind bytes file.now kind) }
+        ensures prepared { IsPrepared H.digest_of (A.known media.old) (B.known definition.old)
+            (C.known signature.old) (A.len media.old) result }
+        ensures not_due { LeavesUndue (A.known media.old) (B.known definition.old)
+            definition.old definition.new signature.old signature.new }
+        ensures sources { ReadsSigned IsPrepareCause
+            (use_of A.len A.known A.faults media.old media.new)
+            (use_of B.len B.known B.faults definition.old definition.new)
+            (use_of C.len C.known C.faults signature.old signature.new) result }
+    {
+        let definition = match read_definition_file(self.alloc, definition) {
+            Ok(definition) => definition,
+            Err(error) => return Err(error),
+        };
+        self.ready_signed(media, file, &definition, signature)
+    }
+
     // What is to be written, where this was found of a media file, with a definition file and a message file.
     fn ready_in<A: Source, B: Source, C: Source>(
         &self,
@@ -155,21 +214,11 @@ impl<'h, H: Hashing> Builder<'h, H> {
             (use_of B.len B.known B.faults definition.old definition.new)
             (use_of C.len C.known C.faults signature.old signature.new) result }
     {
-        one_item();
-        each_message_is_accepted_or_refused_for_one_test();
         let read = match read_media(self.alloc, file) {
             Ok(read) => read,
             Err(error) => return Err(error),
         };
-        let definition = match read_definition_file(self.alloc, definition) {
-            Ok(definition) => definition,
-            Err(error) => return Err(error),
-        };
-        let sign = match read_message_file(self.alloc, definition.protected.as_slice(), signature) {
-            Ok(sign) => sign,
-            Err(error) => return Err(error),
-        };
-        self.ready_over(media, &read, &definition, &sign)
+        self.ready_of(media, &read, definition, signature)
     }
 }
 

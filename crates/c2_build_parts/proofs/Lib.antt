@@ -1,3 +1,2 @@
-mod Filled
 pub mod NewParts
 mod Pieces

@@ -4,13 +4,12 @@ use Rattle.std.proofs.Common.{◌≡◌, ℕ, ◌+◌, ◌-◌, ◌≤◌, Bool,
 use Rattle.std.specs.Bool.{MatchBool}
 use Rattle.c2_base.specs.declared.media.Found.{Found}
 use Rattle.c2_spec.specs.Bmff.Boxes.{begins_bmff}
-use Rattle.c2_spec.specs.Bmff.Store.{IsBmffLocated}
 use Rattle.c2_spec.specs.Container.{IsLocated, begins_jpeg, is_bmff}
 use Rattle.c2_spec.specs.Jpeg.Segments.{Segment}
-use Rattle.c2_spec.specs.Jpeg.Store as jpeg_store
 use Rattle.c2_spec.specs.Jpeg.Writing.{IsNumberOf}
-use Rattle.c2_spec.specs.Located.{Located, absent, here, as_located}
+use Rattle.c2_spec.specs.Located.{absent, here, as_located}
 use Rattle.c2_spec.specs.PutIn.{taken_out}
+use Rattle.c2_spec.proofs.Containers.{of_bmff}
 use Rattle.c2_rules.proofs.JpegMedia.{no_bmff}
 use Rattle.c2_bmff_boxes.specs.Search.{IsStoreOr}
 use Rattle.c2_bmff_rows.specs.declared.row.RootBox.{RootBox}
@@ -46,16 +45,11 @@ bmff_left file start len c is h =
     subst (λ (b : Bool). MatchBool b (IsLeftOfBoxes file (cleared c file)) (cleared c file ≡ taken_out start len file))
     (sym is) h
 
--- what a BMFF file comes to, it comes to by its boxes
-as_boxes : (file : List ℕ) (what : Located) → is_bmff file ≡ true → IsLocated file what → IsBmffLocated file what
-as_boxes file what is h =
-    subst (λ (b : Bool). MatchBool b (IsBmffLocated file what) (jpeg_store.IsLocated file what)) is h
-
 -- so its store was found among its boxes, or none was
 pub bmff_found : (file : List ℕ) (o : Option Found) → is_bmff file ≡ true → IfSome (as_located (Ok o)) (IsLocated file)
     → IsStoreOr file (Ok o)
-bmff_found file None is h = as_boxes file absent is h
-bmff_found file (Some f) is h = as_boxes file (here f.start f.length f.store) is h
+bmff_found file None is h = of_bmff file absent is h
+bmff_found file (Some f) is h = of_bmff file (here f.start f.length f.store) is h
 
 -- ---- the place
 

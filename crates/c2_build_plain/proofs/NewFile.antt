@@ -1,6 +1,6 @@
 -- What a new file meets.
 use Rattle.std.proofs.Common.{◌≡◌, ℕ, ◌+◌, ◌<◌, ◌≤◌, List, [], ◌∷◌, length, true, Option, Some, None, refl, sym, ap, ◌∙◌, subst, arith}
-use Rattle.std.specs.Prelude.{Err, Ok, Result, option_map}
+use Rattle.std.specs.Prelude.{Ok, Result, option_map}
 use Rattle.c2_base.specs.declared.limits.TheConstants.{FILE_LEN_LIMIT, MAX_MANIFESTS, MAX_STORE_LEN}
 use Rattle.c2_base.specs.declared.values.Question.{Question}
 use Rattle.c2_spec.specs.C2pa.Manifest.{manifests_of}
@@ -22,8 +22,9 @@ use Rattle.c2_rules.proofs.FirstLemmas.{none_fails as no_failing}
 use Rattle.c2_pad.specs.Fill.{fill_pairs}
 use Rattle.c2_definition.specs.DefinitionFile.{IsDefinition}
 use Rattle.c2_definition.specs.declared.types.Definition.{Definition}
-use Rattle.c2_definition.specs.declared.types.DefinitionField.{DefinitionField}
+use Rattle.c2_new_signature.proofs.TheLaws.{accepted_messages_can_be_padded}
 use Rattle.c2_new_signature.specs.Signed.{IsSigned}
+use Rattle.c2_lemmas.proofs.Stages.{stage_value}
 use Rattle.c2_new_file_spec.specs.Fresh.{GivesDigests, IsFresh, MeetsTheRules, fresh_content}
 use Rattle.c2_new_file_spec.specs.Store.{Content, new_claim, new_alg}
 use Rattle.c2_new_file_spec.specs.Written.{CanBeWritten}
@@ -38,17 +39,17 @@ use Rattle.c2_new_file_spec.specs.Laws.{OnePlace}
 use Rattle.c2_new_file_spec.specs.Meeting.{BaseStays, CanSucceedAt, FreshPlaceMeets, OverPlaceMeets}
 use Rattle.c2_new_file_spec.specs.Places.{CanPut, IsFreePlace, IsPlace, Place, place_binding, place_file, place_question, place_start, place_store, put_bytes, range_len, store_len}
 use Rattle.c2_build_plain.specs.Building.{Built, IsBuilt, IsEmbedded, IsEmbeddedOn, IsPlanned, IsPlannedOn, built_of, signed_bytes}
-use Rattle.c2_build_refusals.specs.Stages.{HasTextsIn, IsDefinitionStage, IsGroundOver, IsGroundStage, IsMediaStage, IsMessageStage, IsPlaceStage, MediaKind, definition_stage, fresh, fresh_ground, stored}
+use Rattle.c2_build_refusals.specs.Stages.{HasTextsIn, IsDefinitionStage, IsGroundOver, IsGroundStage, IsMediaStage, IsMessageRead, IsMessageStage, IsPlaceStage, MediaKind, fresh, fresh_ground, stored}
 use Rattle.c2_build_plain.specs.Meeting.{ApprovedIsValid, AreApproved, BuiltFileMeets, BuiltMeets, KeepsBytes}
 use Rattle.c2_build_refusals.specs.Refusals.{Ground, first_refusal, ground_tests, late_tests, new_range_len, older_tests, redaction_tests, refuse_if, reserve_tests}
 use Rattle.c2_build_refusals.specs.declared.error.BuildError.{BuildError}
-use Rattle.c2_build_refusals.specs.declared.error.BuildError.TheVariants.{RedactionRefused}
+use Rattle.c2_build_refusals.specs.declared.error.BuildError.TheVariants.{BadDefinition, BadSignature, RedactionRefused}
 use Rattle.c2_build_refusals.proofs.Stages.{none_of_both, passed, then_next, unless_passed, unless_passes}
 use Rattle.c2_build_plain.proofs.Kept.{ground_keeps}
 use Rattle.c2_build_refusals.proofs.Passing.{ground_of, is_passable, opened_absent, opened_here}
 use Rattle.c2_build_plain.proofs.Rooms.{pass_numbers}
 use Rattle.c2_build_plain.proofs.SomeBuild.{PlaceLaws, free_place, ground_definition}
-use Rattle.c2_build_refusals.proofs.Inputs.{AreWellFormed, read_formed, read_taken}
+use Rattle.c2_build_refusals.proofs.Inputs.{AreWellFormed, read_formed}
 use Rattle.std.specs.Option.{option_to_list}
 
 -- ---- what passed
@@ -233,15 +234,6 @@ met_over l hash said media d (stored start len t) g p bytes message read digests
 
 -- ---- all of it
 
--- what a definition is that was passed
-pub defined_of : (file : List ℕ) (d : Definition) → IsDefinitionStage file (Ok d) → IsDefinition file (Ok d)
-defined_of file d h = read_as h.0 h.1 h.2
-  where
-    read_as : (r : Result Definition DefinitionField) → IsDefinition file r → Ok d ≡ definition_stage r
-        → IsDefinition file (Ok d)
-    read_as (Ok x) is e = let same : x ≡ d = cc (e) in subst (λ (y : Definition). IsDefinition file (Ok y)) same is
-    read_as (Err f) is e = absurd (cc (e))
-
 -- the place of a ground is free
 free_at : MetLaws
     → (hash : Alg → List ℕ → List ℕ) (said : Question → Verdict) (media definition message : List ℕ) (b : Built) (k : Known hash said media definition message b)
@@ -271,14 +263,16 @@ meets_of l hash said media definition message b digests texts k =
     record
     { place = free_at l hash said media definition message b k; room = numbers.room; small = small; fits = fits } in
     let read : SignParts = padded_read k.parts (fill_pairs k.is_signed.fill) in
+    let defined = stage_value BadDefinition (IsDefinition definition) d k.is_d in
     let writable : CanBeWritten d =
-    record { formed = read_formed l.formed definition d k.is_d; texts = texts d (defined_of definition d k.is_d) } in
+    record { formed = read_formed l.formed definition d k.is_d; texts = texts d defined } in
     let met =
     met_over l hash said media d k.kind g p k.bytes k.signed read digests k.is_media k.is_ground writable
     numbers.few can k.is_signed.spelled k.put in
-    let taken = read_taken d.protected message k.parts k.is_parts in
+    let taken = stage_value BadSignature (IsMessageRead d.protected message) k.parts k.is_parts in
     let header : read.protected ≡ c.definition.protected =
-    taken.accepted.1.1.1.0 k.parts taken.spelled ∙ ap (λ (x : Definition). x.protected) (sym own) in
+    (accepted_messages_can_be_padded d.protected message k.parts taken.0 taken.1).own
+    ∙ ap (λ (x : Definition). x.protected) (sym own) in
     let q : Question = place_question (hash (new_alg c.definition)) c (length k.signed) g.base p read in
     let store : Tree = place_store (hash (new_alg c.definition)) c k.signed g.base p in
     let meets : MeetsTheRules hash (place_file g.base p k.bytes) (place_start p) (new_range_len p c) store (q ∷ met.older) =
@@ -294,13 +288,13 @@ meets_of l hash said media definition message b digests texts k =
       older = met.older;
       written = record {
         new = d;
-        defined = defined_of definition d k.is_d;
+        defined = defined;
         kind = k.kind;
         opened = k.is_media;
         ground = g;
         grounded = k.is_ground;
         parts = k.parts;
-        spelled = taken.spelled;
+        spelled = taken.1;
         padded = k.signed;
         filled = subst (λ (n : ℕ). IsSigned k.parts n k.signed) (ap (λ (x : Definition). x.reserve) own) k.is_signed;
         place = p;

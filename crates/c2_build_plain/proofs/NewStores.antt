@@ -15,34 +15,44 @@ use Rattle.c2_new_signature.specs.Signed.{FillsOrNeedsMore, IsSigned}
 use Rattle.c2_new_file_spec.specs.Store.{new_claim, new_alg}
 use Rattle.c2_new_file_spec.specs.Places.{Place, place_binding, place_store, put_bytes}
 use Rattle.c2_build_refusals.specs.Kinds.{ComesAs, HasOutcome, SaysNothing}
-use Rattle.c2_build_plain.specs.Building.{Built, IsBuilt, IsEmbeddedOn, IsEmbeddedOver, built_of, signed_bytes}
+use Rattle.c2_build_plain.specs.Building.{Built, IsBuilt, IsEmbeddedOn, IsEmbeddedOver, IsPlannedOver, built_of, signed_bytes}
 use Rattle.c2_build_refusals.specs.Stages.{IsGroundStage, IsPlaceStage, MediaKind, Then}
 use Rattle.c2_build_refusals.specs.Refusals.{Ground, IsReserveRefusal, first_refusal, ground_tests, late_tests, refuse_if, reserve_tests}
-use Rattle.c2_build_drafts.specs.Drafts.{IsPutReady, draft_signed}
+use Rattle.c2_build_drafts.specs.Drafts.{IsPutReady, IsSignedOf, draft_signed}
 use Rattle.c2_build_drafts.specs.declared.ready.DraftedBuild.{DraftedBuild}
-use Rattle.c2_build_plain.specs.Steps.{IsBuildFor, IsDrafted, IsPassed, IsReady, MakesFile}
+use Rattle.c2_build_plain.specs.Steps.{IsBuildFor, IsDraftFor, IsDrafted, IsPassed, IsReady, MakesFile, build_of}
+use Rattle.c2_build_plain.specs.declared.ready.MessageDraft.{MessageDraft}
 use Rattle.c2_build_refusals.specs.declared.types.Drafted.{Drafted}
 use Rattle.c2_build_in_place.specs.declared.writing.Ready.{Ready}
 use Rattle.c2_build_refusals.specs.declared.error.BuildError.{BuildError}
 use Rattle.c2_build_refusals.specs.declared.error.BuildError.TheVariants as build
 use Rattle.c2_build_refusals.proofs.Stages.{first_passes, then_next, unless_fails, unless_passes}
 use Rattle.c2_build_refusals.proofs.Outside.{nothing_said, outside_map}
+use Rattle.c2_build_plain.proofs.Drawn.{passed_plan}
 
 -- ---- what is signed
 
 -- what is signed of what was drafted is what is signed over the ground
-pub same_signed : (hash : Alg → List ℕ → List ℕ) (d : Definition) (g : Ground) (p : Place) → g.content.definition ≡ d
+same_signed : (hash : Alg → List ℕ → List ℕ) (d : Definition) (g : Ground) (p : Place) → g.content.definition ≡ d
     → draft_signed (hash (new_alg d)) d g p ≡ signed_bytes hash g p
 same_signed hash d g p own =
     ap
     (λ (x : Definition). deterministic (sig_structure x.protected (new_claim (hash (new_alg x)) g.content (place_binding (hash (new_alg x)) g.content x.reserve g.base p))))
     (sym own)
 
--- the bytes that a plan answers are what its inputs come to
-pub planned_by : (Is : Result (List ℕ) BuildError → Type 0) (r : Result (List ℕ) BuildError) (bytes : List ℕ)
-    → IfOk r (λ x. x ≡ bytes) → IfErr r SaysNothing → Is (Ok bytes) → HasOutcome Is r
-planned_by Is (Ok x) bytes h k is = subst (λ (y : List ℕ). Is (Ok y)) (sym h) is
-planned_by Is (Err e) bytes h k is = nothing_said e _ k
+-- the bytes that a plan answers of what was drafted are what its inputs come to
+pub planned_by :
+    (hash : Alg → List ℕ → List ℕ) (said : Question → Verdict) (media : List ℕ) (kind : MediaKind) (d : Definition)
+    (w : Drafted) (known : Option (List ℕ)) (r : Result (List ℕ) BuildError)
+    → IsDrafted hash said media d kind w → known ≡ Some media → IfOk r (IsSignedOf (hash (new_alg d)) known d w)
+    → IfErr r SaysNothing → HasOutcome (IsPlannedOver hash said media kind d) r
+planned_by hash said media kind d w known (Ok tbs) at same signed nothing =
+    let own : tbs ≡ signed_bytes hash at.ground at.place =
+    signed media same at.ground at.place at.over ∙ same_signed hash d at.ground at.place at.over.ground.content.definition in
+    subst (λ (x : List ℕ). IsPlannedOver hash said media kind d (Ok x)) (sym own)
+    (passed_plan hash said media kind d at.ground at.place at.passed)
+planned_by hash said media kind d w known (Err e) at same signed nothing =
+    nothing_said e (IsPlannedOver hash said media kind d (Err e)) nothing
 
 -- ---- the message
 
@@ -134,6 +144,16 @@ build_next hash media First Next a (Ok b) first h = record {
   made = λ bytes put. then_next First Next a (Ok (built_of h.ground h.place bytes)) first (h.made bytes put);
 }
 build_next hash media First Next a (Err e) first h = outside_map e (then_next First Next a (Err e) first) h
+
+-- what is drafted for a definition behind a stage that passed makes the new file
+pub draft_next :
+    {A : Type 0} (hash : Alg → List ℕ → List ℕ) (media : List ℕ) (d : Definition)
+    (First : Result A BuildError → Type 0) (Next : A → Result Built BuildError → Type 0) (a : A)
+    (r : Result MessageDraft BuildError)
+    → First (Ok a) → IsDraftFor hash media d (Next a) r
+    → IsDraftFor hash media d (Then First Next) r
+draft_next hash media d First Next a (Ok m) first h = build_next hash media First Next a (Ok (build_of d m)) first h
+draft_next hash media d First Next a (Err e) first h = outside_map e (then_next First Next a (Err e) first) h
 
 -- what is ready is the new file
 pub ready_made :

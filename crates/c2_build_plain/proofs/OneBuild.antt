@@ -1,17 +1,13 @@
 -- Told inputs come to one plan and to one new file.
-use Rattle.c2_read_manifests.proofs.TheLaws.{one_reading_store}
 use Rattle.std.proofs.Common.{◌≡◌, ℕ, ◌+◌, List, [], length, sym, ap, ◌∙◌, subst}
 use Rattle.std.specs.Prelude.{Ok}
 use Rattle.std.proofs.lemmas.Option.{same_Some}
 use Rattle.c2_base.specs.declared.values.Question.{Question}
-use Rattle.c2_spec.specs.C2pa.Manifest.{manifests_of}
 use Rattle.c2_spec.specs.C2pa.Sign1.{SignParts}
-use Rattle.c2_spec.specs.Container.{Container}
 use Rattle.c2_spec.specs.Jumbf.Tree.{Tree, tree_bytes}
 use Rattle.c2_spec.specs.declared.digest.Alg.{Alg}
 use Rattle.c2_spec.specs.declared.panel.Verdict.{Verdict}
-use Rattle.c2_rules.specs.Binding.{Media}
-use Rattle.c2_rules.specs.CheckList.{IsStoreReading, StoreReading, check_list}
+use Rattle.c2_rules.specs.CheckList.{StoreReading, check_list}
 use Rattle.c2_rules.specs.Readings.{Reading}
 use Rattle.c2_rules.specs.Tests.{first_failing}
 use Rattle.c2_rules.specs.Validated.{IsFileReading}
@@ -29,7 +25,6 @@ use Rattle.c2_build_refusals.specs.Refusals.{Ground, first_refusal, ground_tests
 use Rattle.c2_build_refusals.proofs.Stages.{IsOne, one_then, one_unless}
 use Rattle.c2_build_refusals.proofs.Inputs.{OneDefinition, OneItem, OneOpened, one_definition, one_media, one_message}
 use Rattle.c2_build_refusals.proofs.Passing.{ground_of}
-use Rattle.c2_rules.proofs.OneMedia.{media_once}
 
 -- ---- what laws of other crates say
 
@@ -49,18 +44,6 @@ pub record OneLaws : Type 0 where
   pub fills : FillsOrNeedsMore
   pub reading : OneStoreReading
   pub content : ContentIsOne
-
--- ---- a store is read in one way
-
--- media of these
-abbrev media_of : List ℕ → Container → Media
-media_of file c = record { bytes = file; container = c }
-
--- the store of a file, which is media in one way, is read in one way
-pub one_store_reading : OneStoreReading
-one_store_reading file t a b h k =
-    one_reading_store h.media (manifests_of t) a b h.reads
-    (subst (λ (m : Media). IsStoreReading m (manifests_of t) b) (media_once file k.media h.media k.is_media h.is_media) k.reads)
 
 -- ---- stages
 

@@ -13,7 +13,7 @@ use Rattle.c2_spec.specs.PutIn.{taken_out}
 use Rattle.c2_new_file_spec.specs.Places.{IsPlace, Place, in_boxes, in_segments, place_start}
 use Rattle.c2_strip.specs.Stripping.{IsMiddle}
 use Rattle.c2_build_plain.proofs.AtTheEnd.{begins_inside, put_at_end}
-use Rattle.c2_build_plain.proofs.Containers.{as_bmff}
+use Rattle.c2_spec.proofs.Containers.{as_bmff}
 
 -- the length of a range
 len_of : Located → ℕ

@@ -15,24 +15,26 @@ use Rattle.c2_rules.specs.Validated.{IsAnswer, IsOpenedAnswer}
 use Rattle.c2_rules.specs.declared.answer.Answer.{Answer}
 use Rattle.c2_definition.specs.DefinitionFile.{IsWellFormed}
 use Rattle.c2_definition.specs.declared.types.Definition.{Definition}
+use Rattle.c2_new_signature.proofs.TheLaws.{accepted_paddable}
 use Rattle.c2_new_signature.specs.Message.{RefusedForOne}
 use Rattle.c2_new_signature.specs.Refusals.{reserve_needed}
-use Rattle.c2_new_signature.specs.Signed.{FillsOrNeedsMore, IsPaddable, IsSigned, NeedsMore}
+use Rattle.c2_new_signature.specs.Signed.{FillsOrNeedsMore, IsSigned, NeedsMore}
 use Rattle.c2_new_file_spec.specs.Carrying.{SomeContentOver}
 use Rattle.c2_new_file_spec.specs.Laws.{FreshHasPlace, LeftHasPlace, SomeLeft}
 use Rattle.c2_new_file_spec.specs.Places.{IsFreePlace, Place, place_store}
 use Rattle.c2_build_plain.specs.Building.{IsBuilt, IsEmbeddedOn, IsPlannedOn, built_of, signed_bytes}
-use Rattle.c2_build_refusals.specs.Stages.{IsDefinitionStage, IsGroundOver, IsGroundStage, IsMediaStage, IsMessageStage, IsPlaceStage, MediaKind, fresh, fresh_ground, media_stage, stored}
+use Rattle.c2_build_refusals.specs.Stages.{IsDefinitionStage, IsGroundOver, IsGroundStage, IsMediaStage, IsMessageRead, IsMessageStage, IsPlaceStage, MediaKind, fresh, fresh_ground, media_stage, stored}
 use Rattle.c2_build_plain.specs.Meeting.{SomeEmbedding, SomePlan}
 use Rattle.c2_build_refusals.specs.Refusals.{Ground, first_refusal, ground_tests, late_tests, older_tests, redaction_tests, reserve_tests, refuse_if}
-use Rattle.c2_build_refusals.proofs.Inputs.{AreWellFormed, EachDefinition, IsTaken, OneOpened, read_formed, read_taken, some_definition, some_message}
+use Rattle.c2_build_refusals.proofs.Inputs.{AreWellFormed, EachDefinition, OneOpened, read_formed, some_definition, some_message}
 use Rattle.c2_build_refusals.proofs.Passing.{ground_of, is_passable, opened_absent, opened_here, stands_over}
 use Rattle.c2_build_plain.proofs.Rooms.{pass_numbers}
 use Rattle.c2_build_refusals.proofs.Stages.{Something, none_of_both, some_then, some_unless, unless_passed}
-use Rattle.c2_build_refusals.specs.declared.error.BuildError.TheVariants.{ReserveTooSmall}
+use Rattle.c2_build_refusals.specs.declared.error.BuildError.TheVariants.{BadSignature, ReserveTooSmall}
 use Rattle.std.specs.Option.{option_to_list}
 use Rattle.c2_new_file_spec.specs.Store.{new_alg}
 use Rattle.c2_collect_spec.proofs.Order.{some_bytes}
+use Rattle.c2_lemmas.proofs.Stages.{stage_value}
 
 -- ---- what laws of other crates say
 
@@ -131,27 +133,7 @@ ground_definition hash said media d (stored start len t) g h =
     let same : ground_of is.1.2.0 is.1.0 (length h.0.readings + 1) ≡ g = cc (is.1.2.2) in
     ap (λ (x : Ground). x.content.definition) (sym same) ∙ is.1.1.definition
 
--- ---- the definition and the message
-
--- a message that passed can be padded to what a definition reserves
-paddable : (protected bytes : List ℕ) (p : SignParts) (d : Definition) → IsTaken protected bytes p → IsWellFormed d
-    → IsPaddable bytes p d.reserve
-paddable protected bytes p d t formed =
-    let tests = t.accepted.1.1 in
-    let map = t.spelled.is.header in
-    record {
-      spelled = t.spelled;
-      small = t.accepted.0;
-      entries = map.0;
-      can = record {
-        map = map.1;
-        plain = tests.0 p t.spelled;
-        few = tests.1.1.0 p t.spelled map.0 map.1;
-        no_pad = (tests.1.1.1.0 p t.spelled map.0 map.1).0;
-        no_pad2 = (tests.1.1.1.0 p t.spelled map.0 map.1).1;
-      };
-      most = formed.most;
-    }
+-- ---- the message
 
 -- where no test on the reserve fails, a message doesn't need more
 no_more : (d : Definition) (p : SignParts) → first_refusal (reserve_tests d p) ≡ None → NeedsMore p d.reserve → ⊥
@@ -164,13 +146,14 @@ no_more d p none needs = by (reserve_needed d.reserve (length (bare_bytes p))) n
 
 -- a file is built where no test fails
 some_built : FillsOrNeedsMore → (hash : Alg → List ℕ → List ℕ) (bytes : List ℕ) (g : Ground) (p : Place) (m : SignParts)
-    → IsTaken g.content.definition.protected bytes m → IsWellFormed g.content.definition
+    → IsMessageRead g.content.definition.protected bytes (Ok m) → IsWellFormed g.content.definition
     → first_refusal (late_tests g m p) ≡ None
     → Something (IsBuilt hash g p m)
 some_built fills hash bytes g p m taken formed none =
     let d : Definition = g.content.definition in
     let both = none_of_both (ground_tests g p) (reserve_tests d m) none in
-    by both (fills.either bytes m d.reserve (paddable d.protected bytes m d taken formed))
+    by both (fills.either bytes m d.reserve
+    (accepted_paddable d.protected bytes m d.reserve taken.0 taken.1 formed.most))
   where
     by : (first_refusal (ground_tests g p) ≡ None) × (first_refusal (reserve_tests g.content.definition m) ≡ None)
         → ((message : List ℕ) × IsSigned m g.content.definition.reserve message) ⊎ NeedsMore m g.content.definition.reserve
@@ -203,4 +186,7 @@ some_embedding l hash said media definition message bytes are =
     some_then (IsPlaceStage g.base) _ (some_place g.base (free_place l.places hash said media d kind g is_media is_g)) (λ p is_p.
     let own : g.content.definition ≡ d = ground_definition hash said media d kind g is_g in
     some_unless (first_refusal (late_tests g m p)) (IsBuilt hash g p m) (λ none.
-    some_built l.fills hash message g p m (subst (λ (x : Definition). IsTaken x.protected message m) (sym own) (read_taken d.protected message m is_m)) (subst IsWellFormed (sym own) (read_formed l.formed definition d is_d)) none))))))
+    some_built l.fills hash message g p m
+    (subst (λ (x : Definition). IsMessageRead x.protected message (Ok m)) (sym own)
+    (stage_value BadSignature (IsMessageRead d.protected message) m is_m))
+    (subst IsWellFormed (sym own) (read_formed l.formed definition d is_d)) none))))))

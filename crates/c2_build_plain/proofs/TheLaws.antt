@@ -2,7 +2,7 @@
 use Rattle.c2_bmff_insert_spec.proofs.TheLaws.{a_base_has_no_store_cut}
 use Rattle.c2_build_plain.proofs.Approved.{approved_is_valid}
 use Rattle.c2_build_plain.proofs.NewFile.{MetLaws, built_meets}
-use Rattle.c2_build_plain.proofs.OneBuild.{OneLaws, one_embedding, one_plan, one_store_reading}
+use Rattle.c2_build_plain.proofs.OneBuild.{OneLaws, one_embedding, one_plan}
 use Rattle.c2_build_plain.proofs.Questioned.{one_embed_asks, one_plan_asks}
 use Rattle.c2_build_plain.proofs.Worked.{some_succeeds}
 use Rattle.c2_build_plain.proofs.WorkedAgain.{again_succeeds}
@@ -17,6 +17,7 @@ use Rattle.c2_new_content_spec.proofs.OverLaws.{a_valid_store_is_approved}
 use Rattle.c2_new_signature.proofs.TheLaws.{a_message_fills_its_reserve_or_needs_more, each_message_is_accepted_or_refused_for_one_test}
 use Rattle.c2_new_content_spec.proofs.SplitLaws.{a_base_stays, a_file_built_in_its_place_meets_the_rules_fresh, a_file_built_in_its_place_meets_the_rules_over}
 use Rattle.c2_opening.proofs.TheLaws.{one_opening_file}
+use Rattle.c2_read_manifests.proofs.TheLaws.{one_reading_file}
 use Rattle.c2_new_file_spec.proofs.ParentLaws.{redactions_that_pass_may_be_made_none, what_is_taken_over_is_one_content}
 use Rattle.c2_cbor_spec.proofs.PlainBack.{one_item}
 
@@ -39,7 +40,7 @@ a_build_comes_to_one_thing_plan =
       left = what_is_left_is_one;
       refused = each_message_is_accepted_or_refused_for_one_test;
       fills = a_message_fills_its_reserve_or_needs_more;
-      reading = one_store_reading;
+      reading = one_reading_file;
       content = what_is_taken_over_is_one_content;
     } in one_plan laws
 
@@ -54,7 +55,7 @@ a_build_comes_to_one_thing_embedding =
       left = what_is_left_is_one;
       refused = each_message_is_accepted_or_refused_for_one_test;
       fills = a_message_fills_its_reserve_or_needs_more;
-      reading = one_store_reading;
+      reading = one_reading_file;
       content = what_is_taken_over_is_one_content;
     } in one_embedding laws
 

@@ -8,6 +8,7 @@ use Rattle.c2_spec.specs.declared.panel.Verdict.{Verdict}
 use Rattle.c2_definition.specs.declared.types.Definition.{Definition}
 use Rattle.c2_new_signature.specs.Message.{RefusedForOne}
 use Rattle.c2_build_plain.specs.Answers.{AsksEmbedded, AsksPlanned}
+use Rattle.c2_build_plain.specs.Steps.{AsksWith}
 use Rattle.c2_build_refusals.specs.Kinds.{WithoutFault}
 use Rattle.c2_build_refusals.specs.Stages.{HasNothingToAsk, IsDefinitionRefused, IsDefinitionStage, IsDefinitionTold, IsMediaStage, IsMessageStage, IsMessageTold, IsToldOf, IsToldRefused, KindAsks, MediaKind, fresh}
 use Rattle.c2_build_base.specs.Grounds.{IsKind, KindHears}
@@ -172,3 +173,23 @@ module _ (one : OneOpened) (hash : Alg → List ℕ → List ℕ) (said : Questi
           by (inr (inl told)) = not_both_definitions told.0 d (is told.0 told.1) told.2
           by (inr (inr told)) =
               not_both_messages refusals told.0 told.2.0 d p (is told.0 told.1) (stage told.2.0 told.2.1) told.2.2
+
+-- ---- what `embed` asks with a definition that was read
+
+module _ (one : OneOpened) (hash : Alg → List ℕ → List ℕ) (said : Question → Verdict) (media message : Option (List ℕ)) (defined : OneDefinition) (m : MediaRead)
+    (found : (file : List ℕ) → media ≡ Some file → (kind : MediaKind) × IsKind file m kind) (item : OneItem) (refusals : RefusedForOne) (d : Definition) where
+  -- nothing where the message is refused
+  pub unsigned_with : (e : BuildError)
+      → ((signed : List ℕ) → message ≡ Some signed → WithoutFault e (IsMessageStage d.protected signed (Err e)))
+      → WithoutFault e ((qs : List Question) → AsksWith hash media d message said qs → qs ≡ [])
+  unsigned_with e stage =
+      said_each e {A = List Question} (λ (qs : List Question). AsksWith hash media d message said qs → qs ≡ [])
+      (λ qs. said_each e {A = AsksWith hash media d message said qs} (λ (k : AsksWith hash media d message said qs). qs ≡ []) (λ k.
+      outside_map e (λ none. none qs k.asks) (unsigned_embed one hash said media k.definition message defined m found item refusals d k.is e stage)))
+
+  -- what the media does, where the message isn't
+  pub asks_with : (p : SignParts)
+      → ((signed : List ℕ) → message ≡ Some signed → IsMessageStage d.protected signed (Ok p))
+      → (qs : List Question) → AsksWith hash media d message said qs → KindHears hash media m said qs
+  asks_with p stage qs k =
+      embedded_asks one hash said media k.definition message defined m found item refusals d k.is p stage qs k.asks

@@ -10,7 +10,8 @@ use Rattle.c2_new_file_spec.specs.Films.{BmffBaseIsItsBase, bmff_store}
 use Rattle.c2_new_file_spec.specs.Meeting.{BaseStays}
 use Rattle.c2_new_file_spec.specs.Places.{in_boxes}
 use Rattle.c2_build_plain.specs.Meeting.{SomeBuildOverStoreSucceeds}
-use Rattle.c2_build_plain.proofs.Worked.{is_place, media, none_begins, none_fails, place}
+use Rattle.c2_collect_spec.proofs.Worked.{is_place, media, none_begins, place}
+use Rattle.c2_build_plain.proofs.Worked.{none_fails}
 use Rattle.c2_build_plain.proofs.WorkedBmff.{are_others, film}
 use Rattle.c2_build_plain.proofs.WorkedBmff.{is_place as bmff_place, media as bmff_media, none_fails as bmff_passes}
 use Rattle.c2_build_plain.proofs.WorkedOver.{IsLeftAgain, IsWorked, OverLaws, first, no_binding, over_succeeds, range_of, refusal_with, second, total}

@@ -12,7 +12,8 @@ use Rattle.c2_new_file_spec.specs.Places.{IsPlace, in_boxes}
 use Rattle.c2_build_refusals.specs.Stages.{fresh_ground}
 use Rattle.c2_build_plain.specs.Meeting.{SomeBmffSucceeds}
 use Rattle.c2_build_refusals.specs.Refusals.{first_refusal, late_tests}
-use Rattle.c2_build_plain.proofs.Worked.{defined, definition_file, message, parts, texts_in, worked_in}
+use Rattle.c2_collect_spec.proofs.Worked.{message, parts}
+use Rattle.c2_build_plain.proofs.Worked.{defined, definition_file, texts_in, worked_in}
 
 -- the file type box
 abbrev ftyp : Box

@@ -3,13 +3,12 @@
 use Rattle.c2_definition.proofs.TheLaws.{each_definition_is_read_one_way_one}
 use Rattle.std.proofs.Common.{◌≡◌, ℕ, ◌+◌, ◌<◌, ◌≤◌, Bool, true, false, bytes_eq, unwrap_or, List, [], ◌∷◌, ◌++◌, length, replicate, Option, Some, None, refl, sym, ap, ◌∙◌, subst, arith, codes, lit<, option_and_then, append-nil}
 use Rattle.std.specs.Prelude.{Ok, nat_lt, nat_le}
-use Rattle.std.specs.List.{AllByRecursion, AllZip, list_any}
+use Rattle.std.specs.List.{AllZip, list_any}
 use Rattle.std.specs.Str.{is_utf8, chars}
 use Rattle.std.proofs.lemmas.Bool.{false≢true}
 use Rattle.hex.proofs.OnLiterals.{hex_on_literals}
 use Rattle.uuid.proofs.OnLiterals.{uuid_on_literals}
 use Rattle.serde_json.proofs.OnLiterals.{serde_json_on_literals}
-use Rattle.serde_json.specs.Data.{Data}
 use Rattle.c2_base.specs.declared.limits.TheConstants.{FILE_LEN_LIMIT, MAX_MANIFESTS, MAX_STORE_LEN}
 use Rattle.c2_base.specs.declared.values.Question.{Question}
 use Rattle.c2_spec.specs.Bmff.Writing.{c2pa_frame_len}
@@ -30,7 +29,7 @@ use Rattle.c2_rules.specs.Tests.{first_failing}
 use Rattle.c2_rules.specs.declared.answer.Failing.{Failing}
 use Rattle.c2_rules.proofs.FirstLemmas.{none_fails as no_failing}
 use Rattle.c2_pad.specs.Fill.{fill_pairs}
-use Rattle.c2_definition.specs.DefinitionFile.{HavePayloads, HasPayload, IsDefinition, assertions_in, definition_in}
+use Rattle.c2_definition.specs.DefinitionFile.{IsDefinition, assertions_in, definition_in}
 use Rattle.c2_definition.specs.Json.{object_of}
 use Rattle.c2_definition.specs.declared.types.Definition.{Definition}
 use Rattle.c2_definition.specs.declared.types.NewAssertion.{NewAssertion}
@@ -61,10 +60,11 @@ use Rattle.c2_build_refusals.proofs.Stages.{none_of_both, then_next, unless_pass
 use Rattle.c2_build_refusals.proofs.Inputs.{AreWellFormed, OneDefinition, OneItem}
 use Rattle.c2_build_refusals.proofs.Passing.{ground_of}
 use Rattle.c2_build_plain.proofs.Rooms.{PassNumbers, pass_numbers}
-use Rattle.c2_build_plain.proofs.Worked.{accepted, defined, definition_file, is_defined, message, parts, signed, spelled, texts}
+use Rattle.c2_build_plain.proofs.Worked.{defined, definition_file, is_defined, texts}
 use Rattle.c2_spec.specs.Digest.{zero_digest}
 use Rattle.c2_collect_spec.proofs.Order.{some_bytes}
-use Rattle.c2_collect_spec.proofs.Worked.{IsOneReading, all_approved, one_reading}
+use Rattle.c2_collect_spec.proofs.WorkedFiles.{have_payloads}
+use Rattle.c2_collect_spec.proofs.Worked.{IsOneReading, accepted_message, all_approved, message, one_reading, parts, signed, spelled}
 
 -- what laws say, of other crates and of this one
 pub record OverLaws : Type 0 where
@@ -104,17 +104,13 @@ no_assertions : option_and_then assertions_in (object_of second_file) ≡ Some [
 unfolding is_utf8 chars hex_on_literals uuid_on_literals serde_json_on_literals
 no_assertions = refl
 
--- each assertion of the second definition file has its payload
-have_payloads : (v : Data) → object_of second_file ≡ Some v → HavePayloads v
-have_payloads v at list is = by list (sym is ∙ (sym (ap (option_and_then assertions_in) at) ∙ no_assertions))
-  where
-    by : (all : List NewAssertion) → Some all ≡ Some [] → AllByRecursion HasPayload all
-    by [] e = tt
-    by (a ∷ others) e = absurd (cc (e))
-
 -- the file is this definition
 is_second : IsDefinition second_file (Ok second)
-is_second = record { payloads = true; told = (λ e. have_payloads, λ h. refl); is = sym (second_row true refl) }
+is_second = record {
+  payloads = true;
+  told = (λ e. have_payloads second_file no_assertions, λ h. refl);
+  is = sym (second_row true refl);
+}
 
 -- the texts of the definition are texts
 second_texts : HasTexts second
@@ -431,7 +427,7 @@ over_succeeds l hash said digests all {film} {base} {p} w =
     let embedded : IsEmbedded hash said file second_file message (Ok b) =
     then_next (IsMediaStage file) _ kind (Ok b) opened
     (then_next (IsDefinitionStage second_file) _ second (Ok b) (Ok second, is_second, refl)
-    (then_next (IsMessageStage second.protected message) _ parts (Ok b) (Ok parts, (accepted, spelled), refl)
+    (then_next (IsMessageStage second.protected message) _ parts (Ok b) (Ok parts, (accepted_message, spelled), refl)
     (then_next (IsGroundStage hash said file second kind) (IsEmbeddedOn hash parts) g (Ok b) stage.2
     (then_next (IsPlaceStage base) _ p (Ok b) (p, w.free.is, refl)
     (unless_passes (first_refusal (late_tests g parts p)) (IsBuilt hash g p parts) (Ok b) passes is_built))))) in

@@ -14,13 +14,14 @@ use Rattle.c2_new_file_spec.specs.Store.{new_alg}
 use Rattle.c2_new_file_spec.specs.Places.{Place, place_store, put_bytes}
 use Rattle.c2_build_refusals.specs.Kinds.{ComesAs, IsSourceCause, WithoutFault, kind_of}
 use Rattle.c2_build_refusals.specs.Refusals.{Ground, first_refusal, ground_tests}
-use Rattle.c2_build_refusals.specs.Stages.{HasTextsIn, IsDefinitionTold, IsGroundStage, IsMessageTold, IsPlaceStage, MediaKind}
+use Rattle.c2_build_refusals.specs.Stages.{HasTextsIn, IsDefinitionStage, IsDefinitionTold, IsGroundStage, IsMessageStage, IsMessageTold, IsPlaceStage, MediaKind, Then}
 use Rattle.c2_build_refusals.specs.declared.error.BuildError.{BuildError}
 use Rattle.c2_build_refusals.specs.declared.types.Drafted.{Drafted}
 use Rattle.c2_build_drafts.specs.Drafts.{FitsMedia, IsOver}
 use Rattle.c2_build_drafts.specs.declared.ready.DraftedBuild.{DraftedBuild}
-use Rattle.c2_build_plain.specs.Answers.{prepare_effects}
-use Rattle.c2_build_plain.specs.Building.{Built, IsEmbedded, built_of}
+use Rattle.c2_build_plain.specs.Answers.{AsksEmbedded, prepare_effects}
+use Rattle.c2_build_plain.specs.Building.{Built, IsEmbedded, IsEmbeddedOver, built_of}
+use Rattle.c2_build_plain.specs.declared.ready.MessageDraft.{MessageDraft}
 use Rattle.c2_build_in_place.specs.Writings.{CanWrite, ready_file}
 use Rattle.c2_build_in_place.specs.declared.writing.Ready.{Ready}
 
@@ -79,6 +80,29 @@ pub record MakesFile (hash : Alg → List ℕ → List ℕ) (media : List ℕ) (
 abbrev pub IsBuildFor : (Alg → List ℕ → List ℕ) → List ℕ → (Result Built BuildError → Type 0) → Result DraftedBuild BuildError → Type 0
 IsBuildFor hash media Is (Ok b) = MakesFile hash media Is b
 IsBuildFor hash media Is (Err e) = WithoutFault e (Is (Err e))
+
+-- what is to be built of a definition, for which this was drafted, with a message
+abbrev pub build_of : Definition → MessageDraft → DraftedBuild
+build_of d m = record { definition = d; drafted = m.drafted; message = m.message }
+
+-- over inputs that come to something a new file that they come to was drafted over this media file for a definition, or the error is what they
+-- come to
+abbrev pub IsDraftFor : (Alg → List ℕ → List ℕ) → List ℕ → Definition → (Result Built BuildError → Type 0) → Result MessageDraft BuildError → Type 0
+IsDraftFor hash media d Is (Ok m) = MakesFile hash media Is (build_of d m)
+IsDraftFor hash media d Is (Err e) = WithoutFault e (Is (Err e))
+
+-- what `embed` comes to over a media file of this kind, with a definition that was read and this file of a signed message
+abbrev pub IsEmbeddedSigned : (Alg → List ℕ → List ℕ) → (Question → Verdict) → List ℕ → MediaKind → Definition → List ℕ → Result Built BuildError → Type 0
+IsEmbeddedSigned hash said media kind d message =
+    Then (IsMessageStage d.protected message) (IsEmbeddedOver hash said media kind d)
+
+-- `embed` asks these questions over the bytes that are known of the media and of the message, with a definition that was read: those that it
+-- asks over each definition file that comes to this.
+pub record AsksWith (hash : Alg → List ℕ → List ℕ) (media : Option (List ℕ)) (d : Definition) (message : Option (List ℕ))
+    (said : Question → Verdict) (qs : List Question) : Type 0 where
+  pub definition : Option (List ℕ)
+  pub is : ForSome definition (λ bytes. IsDefinitionStage bytes (Ok d))
+  pub asks : AsksEmbedded hash media definition message said qs
 
 -- What was drafted over a media file of this length, of a definition file and of a message file: over known bytes a new file that they come to,
 -- and that the texts of the definition are texts; and over all files what fits the media.

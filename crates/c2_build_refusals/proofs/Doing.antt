@@ -1,7 +1,7 @@
 -- Causes of errors, from a step to a call that does more, and what a call leaves that writes nothing.
 use Rattle.std.proofs.Common.{◌≡◌, ℕ, Bool, true, false, refl}
 use Rattle.std.specs.Prelude.{⊤}
-use Rattle.c2_build_refusals.specs.Kinds.{Effects, ErrorKind, IsReadKind, IsSourceCause, MayCome, front_refusal, judge_fault, message_refusal, no_memory, older_refusal, other_refusal, read_fault, refusal, write_fault}
+use Rattle.c2_build_refusals.specs.Kinds.{Effects, ErrorKind, IsReadKind, IsSourceCause, MayCome, front_refusal, judge_fault, message_effects, message_refusal, no_memory, older_refusal, other_refusal, read_fault, refusal, write_fault}
 use Rattle.c2_build_refusals.specs.Sinks.{IsSinkCause, KindLeaves}
 
 -- What a step does is done by a call.
@@ -71,3 +71,19 @@ leaves_kind read_fault h = tt
 leaves_kind judge_fault h = h
 leaves_kind write_fault h = tt
 leaves_kind no_memory h = h
+
+-- ---- a message
+
+-- the cause of an error of a step that looks at a message is one of each call that looks at one
+pub message_step : (does : Effects) → MayCome does.reads_message ⊤ → (m n : ℕ) (k : ErrorKind)
+    → IsReadKind message_effects m n k → IsReadKind does m n k
+message_step does reads =
+    more_read message_effects does
+    (record {
+      message = λ h. reads;
+      judges = λ h. absurd h;
+      writes = λ h. absurd h;
+      tables = λ h. absurd h;
+      older = λ h. absurd h;
+      other = λ h. absurd h;
+    })

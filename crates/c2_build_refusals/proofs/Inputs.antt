@@ -1,10 +1,12 @@
 -- What the inputs of a build come to: one thing each, by what calls of other crates answered.
 use Rattle.c2_opening.proofs.TheLaws.{one_opening_file}
 use Rattle.c2_definition.proofs.TheLaws.{each_definition_is_read_one_way_one, each_definition_is_read_one_way_some}
-use Rattle.std.proofs.Common.{◌≡◌, ◌⊎◌, inl, inr, ℕ, Bool, List, length, refl, sym, ap, ◌∙◌, subst, ◌^◌, ◌<◌, All, cond, arith}
+use Rattle.c2_new_signature.proofs.TheLaws.{one_message_read, some_message_read}
+use Rattle.c2_lemmas.proofs.Stages.{one_stage, some_stage, stage_value}
+use Rattle.std.proofs.Common.{◌≡◌, ◌⊎◌, inl, inr, ℕ, Bool, List, length, refl, sym, ap, subst, ◌^◌, ◌<◌, All, cond, arith}
 use Rattle.std.specs.Prelude.{Result, Ok, Err}
-use Rattle.c2_spec.specs.C2pa.Sign1.{SignParts, SpellsMessage, message_list}
-use Rattle.c2_spec.specs.Cbor.Item.{Item, tag}
+use Rattle.c2_spec.specs.C2pa.Sign1.{SignParts, SpellsMessage}
+use Rattle.c2_spec.specs.Cbor.Item.{Item}
 use Rattle.c2_spec.specs.Cbor.Spelling.{Spells}
 use Rattle.c2_spec.specs.Jumbf.Tree.{Tree}
 use Rattle.c2_spec.specs.Located.{Opening}
@@ -12,7 +14,7 @@ use Rattle.c2_rules.specs.Opened.{IsOpened}
 use Rattle.c2_definition.specs.DefinitionFile.{IsDefinition, IsWellFormed, Agrees, definition_in, definition_of}
 use Rattle.c2_definition.specs.declared.types.Definition.{Definition}
 use Rattle.c2_definition.specs.declared.types.DefinitionField.{DefinitionField}
-use Rattle.c2_new_signature.specs.Message.{RefusedForOne, IsAccepted, IsRefused}
+use Rattle.c2_new_signature.specs.Message.{RefusedForOne, IsAccepted}
 use Rattle.c2_new_signature.specs.declared.error.SignaturePart.{SignaturePart}
 use Rattle.c2_build_refusals.specs.Stages.{IsDefinitionRefused, IsDefinitionStage, IsMediaRefused, IsMediaStage, IsMessageRead, IsMessageRefused, IsMessageStage, MediaKind, definition_stage, media_stage, message_stage}
 use Rattle.c2_build_refusals.proofs.Stages.{IsOne, Something}
@@ -29,8 +31,6 @@ use Rattle.c2_new_signature.specs.declared.error.SignaturePart.TheVariants as pa
 use Rattle.c2_build_refusals.specs.declared.error.BuildError.TheVariants.{BadDefinition, BadSignature}
 use Rattle.c2_definition.specs.Json.{object_of}
 use Rattle.c2_spec.specs.Cbor.Fields.{require}
-use Rattle.c2_cbor_spec.proofs.PlainBack.{one_item}
-use Rattle.c2_spec.proofs.OneMessage.{same_parts}
 
 -- ---- what laws of other crates say
 
@@ -59,7 +59,7 @@ AreWellFormed = (file : List ℕ) (d : Definition) → IsDefinition file (Ok d) 
 
 -- a media file is one thing to a build
 pub one_media : (media : List ℕ) → IsOne (IsMediaStage media)
-one_media media r s h k = h.2 ∙ ap media_stage (one_opening_file media h.0 k.0 h.1 k.1) ∙ sym k.2
+one_media media = one_stage media_stage (IsOpened media) (one_opening_file media)
 
 -- a media file that is refused isn't one that isn't
 pub not_both_media : (media : List ℕ) (kind : MediaKind) {P : Type 0} → IsMediaStage media (Ok kind)
@@ -79,8 +79,7 @@ same_kind k l h = cc (h)
 
 -- a definition file has one outcome
 pub one_definition : (file : List ℕ) → IsOne (IsDefinitionStage file)
-one_definition file r s h k =
-    h.2 ∙ ap definition_stage (each_definition_is_read_one_way_one file h.0 k.0 h.1 k.1) ∙ sym k.2
+one_definition file = one_stage definition_stage (IsDefinition file) (each_definition_is_read_one_way_one file)
 
 -- a definition file isn't both read and refused
 pub not_both_definitions : (file : List ℕ) (d : Definition) {P : Type 0} → IsDefinitionStage file (Ok d)
@@ -94,15 +93,11 @@ same_definition d e h = cc (h)
 
 -- each definition file comes to something
 pub some_definition : (file : List ℕ) → Something (IsDefinitionStage file)
-some_definition file = let d = each_definition_is_read_one_way_some file in (definition_stage d.0, (d.0, d.1, refl))
+some_definition file = some_stage definition_stage (IsDefinition file) (each_definition_is_read_one_way_some file)
 
 -- a definition that was read is well formed
 pub read_formed : AreWellFormed → (file : List ℕ) (d : Definition) → IsDefinitionStage file (Ok d) → IsWellFormed d
-read_formed law file d h = by h.0 h.1 h.2
-  where
-    by : (r : Result Definition DefinitionField) → IsDefinition file r → Ok d ≡ definition_stage r → IsWellFormed d
-    by (Ok x) is e = let same : x ≡ d = cc (e) in subst IsWellFormed same (law file x is)
-    by (Err f) is e = absurd (cc (e))
+read_formed law file d h = law file d (stage_value BadDefinition (IsDefinition file) d h)
 
 -- a definition file that is too long is refused for its size
 pub long_definition : (file : List ℕ) → MAX_INPUT_LEN < length file
@@ -130,39 +125,10 @@ is_bad file f e is agrees =
 
 -- ---- the message
 
--- parts of a message, written short
-abbrev parts : List ℕ → Item → List ℕ → SignParts
-parts protected unprotected signature =
-    record { protected = protected; unprotected = unprotected; signature = signature }
-
--- an item is the message of one list of parts, with its tag or without
-same_form : (v : Item) (p q : SignParts) → (v ≡ message_list p) ⊎ (v ≡ tag 18 (message_list p))
-    → (v ≡ message_list q) ⊎ (v ≡ tag 18 (message_list q)) → p ≡ q
-same_form v p q (inl a) (inl b) = same_parts p q (sym a ∙ b)
-same_form v p q (inl a) (inr b) = absurd (let bad = sym a ∙ b in cc (bad))
-same_form v p q (inr a) (inl b) = absurd (let bad = sym a ∙ b in cc (bad))
-same_form v p q (inr a) (inr b) = same_parts p q (let both = sym a ∙ b in cc (both))
-
--- bytes are one message
-pub same_message : (s : List ℕ) (p q : SignParts) → SpellsMessage s p → SpellsMessage s q → p ≡ q
-same_message s p q a b =
-    let item : b.message ≡ a.message = one_item b.message a.message s b.spelled a.spelled in
-    same_form a.message p q a.is.form
-    (subst (λ (v : Item). (v ≡ message_list q) ⊎ (v ≡ tag 18 (message_list q))) item b.is.form)
-
--- a message is read as one thing
-one_read : RefusedForOne → (protected bytes : List ℕ) (m n : Result SignParts SignaturePart)
-    → IsMessageRead protected bytes m → IsMessageRead protected bytes n → m ≡ n
-one_read refused protected bytes (Ok p) (Ok q) h k = ap (λ (x : SignParts). Ok x) (same_message bytes p q h.1 k.1)
-one_read refused protected bytes (Ok p) (Err t) h k = absurd (refused.none protected bytes t k h.0)
-one_read refused protected bytes (Err t) (Ok q) h k = absurd (refused.none protected bytes t h k.0)
-one_read refused protected bytes (Err t) (Err u) h k =
-    ap (λ (x : SignaturePart). Err x) (refused.one protected bytes t u h k)
-
 -- a message has one outcome in a build
 pub one_message : RefusedForOne → (protected bytes : List ℕ) → IsOne (IsMessageStage protected bytes)
-one_message refused protected bytes r s h k =
-    h.2 ∙ ap message_stage (one_read refused protected bytes h.0 k.0 h.1 k.1) ∙ sym k.2
+one_message law protected bytes =
+    one_stage message_stage (IsMessageRead protected bytes) (one_message_read law protected bytes)
 
 -- a message that is refused isn't one that isn't
 pub not_both_messages : RefusedForOne → (definition message : List ℕ) (d : Definition) (p : SignParts) {P : Type 0}
@@ -177,27 +143,8 @@ not_both_messages refusals definition message d p {P} is stage refused =
 -- each message comes to something
 pub some_message : RefusedForOne → (protected bytes : List ℕ) → All (λ b. b < 2 ^ 8) bytes
     → Something (IsMessageStage protected bytes)
-some_message law protected bytes are = by (law.either protected bytes are)
-  where
-    by : IsAccepted protected bytes ⊎ ((test : SignaturePart) × IsRefused protected bytes test)
-        → Something (IsMessageStage protected bytes)
-    by (inl a) = let form = a.1.0 in (Ok form.0, (Ok form.0, (a, form.1), refl))
-    by (inr r) = (message_stage (Err r.0), (Err r.0, r.1, refl))
-
--- what was read of a message that is accepted
-pub record IsTaken (protected bytes : List ℕ) (p : SignParts) : Type 0 where
-  pub accepted : IsAccepted protected bytes
-  pub spelled : SpellsMessage bytes p
-
--- a message that was passed was accepted
-pub read_taken : (protected bytes : List ℕ) (p : SignParts) → IsMessageStage protected bytes (Ok p)
-    → IsTaken protected bytes p
-read_taken protected bytes p h = by h.0 h.1 h.2
-  where
-    by : (m : Result SignParts SignaturePart) → IsMessageRead protected bytes m → Ok p ≡ message_stage m
-        → IsTaken protected bytes p
-    by (Ok q) is e = let same : q ≡ p = cc (e) in record { accepted = is.0; spelled = subst (SpellsMessage bytes) same is.1 }
-    by (Err t) is e = absurd (cc (e))
+some_message law protected bytes are =
+    some_stage message_stage (IsMessageRead protected bytes) (some_message_read law protected bytes are)
 
 -- a message that is too long is refused for its size
 pub long_message : (protected file : List ℕ) → MAX_INPUT_LEN < length file

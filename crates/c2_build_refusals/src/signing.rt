@@ -1,7 +1,7 @@
 // What is signed over a claim, and a signed message in its reserve.
 ghost use Rattle.std.specs.Prelude.{◌≡◌, IfErr, IfOk, ℕ};
 ghost use Rattle.c2_spec.specs.C2pa.Message.{CanBePadded};
-ghost use Rattle.c2_spec.specs.C2pa.Sign1.{parts_of, sig_structure};
+ghost use Rattle.c2_spec.specs.C2pa.Sign1.{IsHeader, parts_of, sig_structure};
 ghost use Rattle.c2_spec.specs.Cbor.Deterministic.{deterministic};
 ghost use Rattle.c2_spec.specs.Cbor.Item.{Pairs, dict, no_pairs};
 ghost use Rattle.c2_spec.specs.Cbor.View.{view};
@@ -25,19 +25,38 @@ fn empty_map(alloc: Global) -> Cbor
     Cbor::Map(Vec::new(alloc))
 }
 
+// A message that isn't signed, with the protected header of a definition.
+fn unsigned(alloc: Global, definition: &Definition) -> Result<Sign1, NoMemory>
+    ensures protected { IfOk result (λ sign. sign.protected ≡ definition.now.protected) }
+    ensures header { IfOk result (λ sign. IsHeader (view sign.unprotected)) }
+{
+    let protected = Blob::copied(alloc, definition.protected.as_slice())?;
+    let signature = Blob::copied(alloc, &[])?;
+    Ok(Sign1 {
+        protected,
+        unprotected: empty_map(alloc),
+        signature,
+    })
+}
+
+// The bytes that are signed of a message over a claim.
+fn signed_bytes(alloc: Global, sign: &Sign1, claim: &[u8]) -> Result<Blob, NoMemory>
+    requires { IsHeader (view sign.now.unprotected) }
+    ensures { IfOk result (λ b. b
+        ≡ deterministic (sig_structure sign.now.protected claim.now)) }
+{
+    let asked = question(alloc, sign, claim)?;
+    Ok(asked.tbs)
+}
+
 /// The bytes that are signed over a claim: its Sig_structure, with the definition's protected header before the claim (RFC 9052, section 4.4).
 /// `NoMemory` comes where memory ran out.
 pub fn signed_over(alloc: Global, definition: &Definition, claim: &[u8]) -> Result<Blob, NoMemory>
     ensures { IfOk result (λ b. b
         ≡ deterministic (sig_structure definition.now.protected claim.now)) }
 {
-    let sign = Sign1 {
-        protected: Blob::copied(alloc, definition.protected.as_slice())?,
-        unprotected: empty_map(alloc),
-        signature: Blob::copied(alloc, &[])?,
-    };
-    let asked = question(alloc, &sign, claim)?;
-    Ok(asked.tbs)
+    let sign = unsigned(alloc, definition)?;
+    signed_bytes(alloc, &sign, claim)
 }
 
 /// The bytes of a message that was read, padded to what a definition reserves. `ReserveTooSmall` tells how many bytes the message needs where

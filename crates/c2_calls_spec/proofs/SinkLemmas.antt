@@ -1,18 +1,11 @@
 -- What a call leaves of its sink, put together from what the calls below it leave.
-use Rattle.std.proofs.Common.{◌≡◌, ℕ, Bool, List, ◌++◌, Result, Ok, Err, IfErr, OnOk, take, refl, ap, ◌∙◌, subst, arith}
+use Rattle.std.proofs.Common.{◌≡◌, ℕ, Bool, List, Result, Ok, Err, IfErr, OnOk, take, refl, ◌∙◌, subst, arith}
 use Rattle.std.specs.declared.option.Option.{Option}
 use Rattle.c2_base.specs.Causes.{HasCause}
-use Rattle.c2_base.specs.Sink.{Appends, Grows, StaysSink, TakesPrefix, WritesSink, then_written}
-use Rattle.c2_base.proofs.Written.{appended_twice, grows_none}
+use Rattle.c2_base.specs.Sink.{Appends, StaysSink, TakesPrefix, WritesSink}
+use Rattle.c2_base.proofs.Growing.{grows_then}
+use Rattle.c2_base.proofs.Written.{grows_none}
 use Rattle.c2_lemmas.proofs.Results.{on_ok}
-
--- ---- what was written
-
--- what was written stays under what follows
-grows_next : (a b c : Option (List ℕ)) → Grows a b → Grows b c → Grows a c
-grows_next a b c g h = (g.0 ++ h.0, h.1 ∙ ap (λ x. then_written x h.0) g.1 ∙ appended_twice a g.0 h.0)
-
--- ---- the sink
 
 module _ {K : Type 0} {written : K → Option (List ℕ)} {finished : K → Bool} {faults : K → ℕ} where
   -- a sink is left as it was
@@ -30,7 +23,7 @@ module _ {K : Type 0} {written : K → Option (List ℕ)} {finished : K → Bool
       → StaysSink written finished faults a c
   sink_next a b c h k = record {
     later = omega (arith, h.later, k.later);
-    grows = grows_next (written a) (written b) (written c) h.grows k.grows;
+    grows = grows_then (written a) (written b) (written c) h.grows k.grows;
     unfinished = k.unfinished ∙ h.unfinished;
   }
 

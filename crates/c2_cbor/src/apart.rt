@@ -14,7 +14,9 @@ ghost use Rattle.c2_cbor.specs.Apart.{GivesSome, OnlyIf, whole_value, pairs_with
 ghost use Rattle.c2_cbor_spec.specs.Reading.{Gives, is_known, item_at, items, pairs, pairs_seen};
 
 use crate::decoding::{end_before, read_error};
-use crate::read::{after_end, check_keys, one_fewer, push_member, read_item};
+use crate::read::{
+    after_end, check_keys, first_fault, first_fault_after, one_fewer, push_member, read_item,
+};
 use c2_base::Texts;
 use c2_base::limits::MAX_CBOR_DEPTH;
 use c2_cbor_fields::is_key;
@@ -159,19 +161,15 @@ fn read_fields<'a>(
         }
         let (key, after_key) = match read_item(alloc, rest, levels) {
             Ok(read) => read,
-            Err(e) => {
-                check_keys(alloc, found.as_slice(), places.as_slice())?;
-                return Err(e);
-            }
+            Err(e) => return Err(first_fault(alloc, found.as_slice(), places.as_slice(), e)),
         };
         places.push(rest.len())?;
         let wanted = is_wanted(&texts, &key, name);
         let (value, after) = match read_value(alloc, after_key, levels, wanted) {
             Ok(read) => read,
             Err(e) => {
-                push_member(&mut found, (key, Cbor::Simple(22)), due)?;
-                check_keys(alloc, found.as_slice(), places.as_slice())?;
-                return Err(e);
+                let kept = places.as_slice();
+                return Err(first_fault_after(alloc, &mut found, key, due, kept, e));
             }
         };
         push_member(&mut found, (key, value.item), due)?;

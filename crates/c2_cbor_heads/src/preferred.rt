@@ -1,11 +1,20 @@
 //! The spelling of an item with shortest heads and definite lengths, pairs in the order in which they stand.
 
-ghost use Rattle.std.specs.Prelude.{◌≡◌, ◌<◌, ◌++◌, OnOk};
+ghost use Rattle.std.specs.Prelude.{◌≡◌, ◌<◌, ◌∷◌, ◌++◌, OnOk, length};
 ghost use Rattle.c2_spec.specs.Cbor.View.{view, items_view, pairs_view};
-ghost use Rattle.c2_spec.specs.Cbor.Deterministic.{shortest_head, preferred, preferred_items, preferred_pairs};
+ghost use Rattle.c2_spec.specs.Cbor.Deterministic.{shortest_head, simple_bytes, preferred, preferred_items, preferred_pairs};
 
 use c2_spec::Cbor;
 use std::alloc::AllocError;
+
+/// Appends a byte, and these behind it.
+fn push_after(out: &mut Vec<u8>, first: u8, bytes: &[u8]) -> Result<(), AllocError>
+    ensures { OnOk result (out.new.items ≡ out.old.items ++ first ∷ bytes.now) }
+{
+    out.push(first)?;
+    out.extend_from_slice(bytes)?;
+    Ok(())
+}
 
 /// Appends the shortest head of a major type with this argument.
 #[tactic(auto, unfolding(c2_spec::specs::Cbor::Deterministic::shortest_head))]
@@ -16,20 +25,38 @@ pub fn push_head(out: &mut Vec<u8>, major: u8, n: u64) -> Result<(), AllocError>
     let first = 32 * major;
     if n < 24 {
         out.push(first + n as u8)?;
+        Ok(())
     } else if n < 256 {
-        out.push(first + 24)?;
-        out.push(n as u8)?;
+        push_after(out, first + 24, &[n as u8])
     } else if n < 65536 {
-        out.push(first + 25)?;
-        out.extend_from_slice(&(n as u16).to_be_bytes())?;
+        push_after(out, first + 25, &(n as u16).to_be_bytes())
     } else if n < 4294967296 {
-        out.push(first + 26)?;
-        out.extend_from_slice(&(n as u32).to_be_bytes())?;
+        push_after(out, first + 26, &(n as u32).to_be_bytes())
     } else {
-        out.push(first + 27)?;
-        out.extend_from_slice(&n.to_be_bytes())?;
+        push_after(out, first + 27, &n.to_be_bytes())
     }
+}
+
+/// Appends a string of a major type: its head, and its bytes.
+fn push_string(out: &mut Vec<u8>, major: u8, bytes: &[u8]) -> Result<(), AllocError>
+    requires { major < 8 }
+    ensures { OnOk result (out.new.items
+        ≡ out.old.items ++ shortest_head major (length bytes.now) ++ bytes.now) }
+{
+    push_head(out, major, bytes.len() as u64)?;
+    out.extend_from_slice(bytes)?;
     Ok(())
+}
+
+/// Appends a simple value.
+fn push_simple(out: &mut Vec<u8>, a: u8) -> Result<(), AllocError>
+    ensures { OnOk result (out.new.items ≡ out.old.items ++ simple_bytes a) }
+{
+    if a < 24 {
+        out.push(224 + a)?;
+        return Ok(());
+    }
+    push_after(out, 248, &[a])
 }
 
 /// Appends the spelling of an item with shortest heads and definite lengths, the pairs of each map in the order in which they stand.
@@ -40,57 +67,24 @@ pub fn push_preferred(out: &mut Vec<u8>, item: &Cbor) -> Result<(), AllocError>
     match item {
         Cbor::Uint(n) => push_head(out, 0, *n),
         Cbor::Nint(n) => push_head(out, 1, *n),
-        Cbor::Bytes(b) => {
-            let bytes = b.as_slice();
-            push_head(out, 2, bytes.len() as u64)?;
-            out.extend_from_slice(bytes)?;
-            Ok(())
-        }
-        Cbor::Text(t) => {
-            let bytes = t.as_str().as_bytes();
-            push_head(out, 3, bytes.len() as u64)?;
-            out.extend_from_slice(bytes)?;
-            Ok(())
-        }
+        Cbor::Bytes(b) => push_string(out, 2, b.as_slice()),
+        Cbor::Text(t) => push_string(out, 3, t.as_str().as_bytes()),
         Cbor::List(items) => {
             push_head(out, 4, items.len() as u64)?;
-            push_items(out, items)?;
-            Ok(())
+            push_items(out, items)
         }
         Cbor::Map(pairs) => {
             push_head(out, 5, pairs.len() as u64)?;
-            push_pairs(out, pairs)?;
-            Ok(())
+            push_pairs(out, pairs)
         }
         Cbor::Tag(n, item) => {
             push_head(out, 6, *n)?;
-            push_preferred(out, item)?;
-            Ok(())
+            push_preferred(out, item)
         }
-        Cbor::Simple(a) => {
-            if *a < 24 {
-                out.push(224 + *a)?;
-            } else {
-                out.push(248)?;
-                out.push(*a)?;
-            }
-            Ok(())
-        }
-        Cbor::Half(n) => {
-            out.push(249)?;
-            out.extend_from_slice(&n.to_be_bytes())?;
-            Ok(())
-        }
-        Cbor::Single(n) => {
-            out.push(250)?;
-            out.extend_from_slice(&n.to_be_bytes())?;
-            Ok(())
-        }
-        Cbor::Double(n) => {
-            out.push(251)?;
-            out.extend_from_slice(&n.to_be_bytes())?;
-            Ok(())
-        }
+        Cbor::Simple(a) => push_simple(out, *a),
+        Cbor::Half(n) => push_after(out, 249, &n.to_be_bytes()),
+        Cbor::Single(n) => push_after(out, 250, &n.to_be_bytes()),
+        Cbor::Double(n) => push_after(out, 251, &n.to_be_bytes()),
     }
 }
 

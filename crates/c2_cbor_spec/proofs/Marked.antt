@@ -17,7 +17,8 @@ use Rattle.std.proofs.lemmas.List.Elements.{recursion_from_All, All-from_recursi
 use Rattle.std.proofs.lemmas.List.Sorted.{All-permutation, IsPermutation-sym, IsPermutation-map}
 use Rattle.std.proofs.lemmas.Map.Keys.{IsDistinct-IsPermutation, sorted_from_all_adjacent}
 use Rattle.c2_cbor_spec.specs.Marks.{flat, StandIn, Bytes, AllBytes, AgreeBelow, SharesFront, front_of, front_after, Mark, mark_of, marks, numbered, mark_cmp, IsKeyOrder}
-use Rattle.c2_cbor_spec.proofs.Marks.{marks_total, Lent, lent_cmp, lent_sorted}
+use Rattle.c2_cbor_spec.proofs.Marks.{Lent, lent_cmp}
+use Rattle.c2_lemmas.proofs.Marks.{marks_total, sorted_map}
 
 -- ---- the first bytes as a number
 
@@ -379,5 +380,5 @@ in_key_order skip ks bytes lens keys sorted stand b shared h moved up =
       shared = shared;
       bytes = all_bytes ks (subst Bytes stand.flat b);
       moved = subst (λ ms. IsPermutation ms (marks sorted)) h (IsPermutation-map mark_of keys sorted moved);
-      up = lent_sorted sorted up;
+      up = sorted_map mark_cmp mark_of sorted up;
     }

@@ -115,3 +115,7 @@ pub reads_plain : (v : Item) (s : List ℕ) → Fine v → IsLegal v → s ≡ d
 reads_plain v s f legal e =
     subst (λ t. ((w : Item) × HasItem t w) ↔ IsPlain v) (sym e)
     ((λ h. plain_of v h.0 f legal h.1), (λ p. (sorted v, item_of v f p)))
+
+-- bytes as a whole are one item at most
+pub same_item : (s : List ℕ) (v w : Item) → HasItem s v → HasItem s w → v ≡ w
+same_item s v w p q = one_item v w s p.spelled q.spelled

@@ -1,5 +1,5 @@
 -- The entries of sorted keys are the pairs in the order in which they are inserted one by one.
-use Rattle.std.proofs.Common.{◌≡◌, ℕ, suc, ◌+◌, ◌<◌, List, [], ◌∷◌, ◌++◌, length, get_or, drop, map, IsPermutation, IsSorted, refl, sym, ap, subst, ◌∙◌, arith}
+use Rattle.std.proofs.Common.{◌≡◌, ℕ, suc, ◌+◌, ◌<◌, List, [], ◌∷◌, ◌++◌, length, get_or, drop, map, IsPermutation, IsSorted, Result, OnOk, append_assoc, refl, sym, ap, subst, ◌∙◌, arith}
 use Rattle.std.specs.List.{AllByRecursion}
 use Rattle.std.specs.BTreeSet.{insert_key}
 use Rattle.std.specs.Ordering.{nat_cmp, ordering_then, match_ordering}
@@ -7,8 +7,8 @@ use Rattle.std.specs.declared.cmp.Ordering.{Ordering}
 use Rattle.std.specs.declared.cmp.Ordering.TheVariants.{Less, Equal, Greater}
 use Rattle.std.specs.Cmp.{nat_cmp_is}
 use Rattle.std.specs.Cmp.Lexicographic.{slice_cmp}
-use Rattle.std.proofs.lemmas.List.{get_or-drop, drop-drop, length-map}
-use Rattle.c2_cbor_spec.specs.Marks.{Bytes, AllBytes, AgreeBelow, AllAgree, front_after, Mark, mark_of, marks, numbered, mark_cmp, IsKeyOrder}
+use Rattle.std.proofs.lemmas.List.{get_or-drop, drop-drop, drop_more, length-map}
+use Rattle.c2_cbor_spec.specs.Marks.{Bytes, AllBytes, AgreeBelow, AllAgree, front_after, Mark, mark_of, marks, mark_at, numbered, mark_cmp, IsKeyOrder}
 use Rattle.c2_spec.specs.Cbor.Item.{Pairs, no_pairs, Item, pair}
 use Rattle.c2_spec.specs.Cbor.View.{view, pairs_view}
 use Rattle.c2_spec.specs.Cbor.Deterministic.{preferred_pairs, deterministic, sorted, sorted_pairs, insert_pair, preferred}
@@ -137,6 +137,27 @@ keys_are ps ms s o same = λ i d l.
     (subst (λ x. IsPermutation (numbered o.skip 0 (det_keys ps)) (marks x)) (sym same) o.moved)
     (subst (λ x. IsSorted mark_cmp (marks x)) (sym same) o.up) i lt in
     subst (λ (m : Mark). m.1 ≡ get_or (det_keys ps) m.2 []) (sym (lent_at s i d l)) is.2
+
+-- the key at one place among lent ones
+pub sorted_key : {X E : Type 0} (r : Result X E) (keys : List Lent) (i : ℕ) (d : Lent) (old mid new : List ℕ)
+    → i < length keys → mid ≡ old → OnOk r (new ≡ mid ++ (get_or keys i d).1.now)
+    → OnOk r (new ≡ old ++ (mark_at (marks keys) i).1)
+sorted_key r keys i d old mid new lt same h =
+    subst (λ w. OnOk r (new ≡ w))
+    (ap (λ x. x ++ (get_or keys i d).1.now) same ∙ ap (λ (m : Mark). old ++ m.1) (lent_at keys i d lt)) h
+
+-- what was written with one more entry
+pub entry_on : (vs : List (List ℕ)) (keys : List Lent) (i : ℕ) (d : Lent) (old mid new whole : List ℕ)
+    → i < length keys → mid ≡ old ++ (mark_at (marks keys) i).1 → new ≡ mid ++ get_or vs (get_or keys i d).2 []
+    → old ++ entry_bytes (map (entry_of vs) (marks (drop i keys))) ≡ whole
+    → new ++ entry_bytes (map (entry_of vs) (marks (drop (i + 1) keys))) ≡ whole
+entry_on vs keys i d old mid new whole lt p q h =
+    let k : List ℕ = (get_or keys i d).1.now in
+    let v : List ℕ = get_or vs (get_or keys i d).2 [] in
+    let rest : List ℕ = entry_bytes (map (entry_of vs) (marks (drop (i + 1) keys))) in
+    let key : mid ≡ old ++ k = p ∙ ap (λ (m : Mark). old ++ m.1) (sym (lent_at keys i d lt)) in
+    ap (λ x. x ++ rest) (q ∙ ap (λ x. x ++ v) key ∙ append_assoc old k v) ∙ append_assoc old (k ++ v) rest
+    ∙ ap (λ ks. old ++ entry_bytes (map (entry_of vs) (marks ks))) (sym (drop_more keys i d lt)) ∙ h
 
 -- what was written in that order
 pub det_written : (ps : List (Cbor × Cbor)) (ms : List Lent) (s : List Lent) (old new : List ℕ)

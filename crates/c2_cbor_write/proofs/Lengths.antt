@@ -3,7 +3,7 @@ use Rattle.std.proofs.Common.{◌≡◌, ℕ, ◌+◌, ◌^◌, ◌<◌, List, l
 use Rattle.std.specs.Option.{SomeIff}
 use Rattle.std.specs.declared.alloc.Global.{Global}
 use Rattle.std.proofs.lemmas.List.{length-append}
-use Rattle.c2_spec.specs.Cbor.Item.{bytes, text}
+use Rattle.c2_spec.specs.Cbor.Item.{bytes}
 use Rattle.c2_spec.specs.Cbor.View.{view, items_view, pairs_view}
 use Rattle.c2_spec.specs.Cbor.Deterministic.{shortest_head, preferred, preferred_items, preferred_pairs}
 use Rattle.c2_spec.specs.declared.cbor.Cbor.{Cbor, List as List', Bytes, Text, Map, Tag, the_lemmas}
@@ -11,6 +11,10 @@ use Rattle.c2_cbor_spec.proofs.Views.{preferred-List, preferred-Map, preferred-T
 use Rattle.c2_cbor_spec.proofs.Views.{view-text}
 
 -- ---- sums that a number holds
+
+-- the same sum
+pub sum_as : (r : Option ℕ) (t a c : ℕ) → c ≡ a → SomeIff r (t + a < 2 ^ 64) (t + a) → SomeIff r (t + c < 2 ^ 64) (t + c)
+sum_as r t a c e h = subst (λ x. SomeIff r (t + x < 2 ^ 64) (t + x)) (sym e) h
 
 -- a sum that goes on after a part is the sum from before that part
 pub sum_on : (r : Option ℕ) (t h s a c : ℕ) → (t + h < 2 ^ 64) × (s ≡ t + h) → SomeIff r (s + a < 2 ^ 64) (s + a)
@@ -36,7 +40,7 @@ from_none (Some x) a d h e = (omega (arith, h.0, e), omega (arith, h.1, e))
 -- ---- an item and its parts
 
 -- a byte string as an item
-view-Bytes : (b : List ℕ) → view (Bytes b) ≡ bytes b
+pub view-Bytes : (b : List ℕ) → view (Bytes b) ≡ bytes b
 view-Bytes b = search (rules, the_lemmas)
 
 -- a byte string is as long as its head and its bytes

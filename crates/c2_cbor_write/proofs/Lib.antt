@@ -3,3 +3,5 @@ pub mod EqualKeys
 pub mod Writable
 pub mod Entries
 pub mod PlainKeys
+pub mod Copies
+pub mod Grown

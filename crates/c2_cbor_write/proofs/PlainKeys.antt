@@ -1,5 +1,5 @@
 -- Where the sorted keys of a map differ, and its keys and values are plain, the map is plain; what is plain has distinct keys.
-use Rattle.std.proofs.Common.{◌≡◌, ◌↔◌, ℕ, zero, suc, ◌<◌, Bool, true, false, List, [], ◌∷◌, length, get_or, drop, Option, Some, None, is_none, Vec, Box, refl, sym, ap, subst, ◌∙◌, arith}
+use Rattle.std.proofs.Common.{◌≡◌, ◌↔◌, ℕ, zero, suc, ◌<◌, Bool, true, false, List, [], ◌∷◌, length, get_or, drop, Option, Some, None, Result, IfOk, is_none, Vec, Box, refl, sym, ap, subst, ◌∙◌, arith}
 use Rattle.std.specs.declared.alloc.Global.{Global}
 use Rattle.std.proofs.lemmas.List.{get_or-map, length-map, length-drop}
 use Rattle.c2_spec.specs.Cbor.Item.{Item, uint, nint, bytes, text, list, dict, tag, simple, half, single, double, Items, no_items, item, Pairs, no_pairs, pair}
@@ -162,27 +162,31 @@ module _ (P : Type 0) where
 
 -- ---- values that are one level
 
--- a list
-pub plain-List : (b : Bool) (x : Cbor) (v : Vec Cbor Global) (vs : List Cbor) → x ≡ List' v → vs ≡ v.items
-    → ((b ≡ true) ↔ ItemsHavePlainKeys (items_view vs)) → (b ≡ true) ↔ HasPlainKeys (view x)
-plain-List b x v vs is e h =
-    subst (λ w. (b ≡ true) ↔ HasPlainKeys w) (sym (ap view is ∙ view-List v))
-    (subst (λ ws. (b ≡ true) ↔ ItemsHavePlainKeys (items_view ws)) e h)
+module _ {E : Type 0} (r : Result Bool E) where
+  -- what may be answered for an item, where the item is this one
+  abbrev TellsPlain : Type 0 → Type 0
+  TellsPlain P = IfOk r (λ b. (b ≡ true) ↔ P)
 
--- a map
-pub plain-Map : (b : Bool) (x : Cbor) (v : Vec (Cbor × Cbor) Global) (ps : List (Cbor × Cbor)) → x ≡ Map v
-    → ps ≡ v.items
-    → ((b ≡ true) ↔ PairsHavePlainKeys (pairs_view ps)) → (b ≡ true) ↔ HasPlainKeys (view x)
-plain-Map b x v ps is e h =
-    subst (λ w. (b ≡ true) ↔ HasPlainKeys w) (sym (ap view is ∙ view-Map v))
-    (subst (λ qs. (b ≡ true) ↔ PairsHavePlainKeys (pairs_view qs)) e h)
+  -- a list
+  pub plain-List : (x : Cbor) (v : Vec Cbor Global) (vs : List Cbor) → x ≡ List' v → vs ≡ v.items
+      → TellsPlain (ItemsHavePlainKeys (items_view vs)) → TellsPlain (HasPlainKeys (view x))
+  plain-List x v vs is e h =
+      subst (λ w. TellsPlain (HasPlainKeys w)) (sym (ap view is ∙ view-List v))
+      (subst (λ ws. TellsPlain (ItemsHavePlainKeys (items_view ws))) e h)
 
--- a tag
-pub plain-Tag : (b : Bool) (x : Cbor) (n : ℕ) (v : Box Cbor Global) (w : Cbor) → x ≡ Tag n v → w ≡ v.value
-    → ((b ≡ true) ↔ HasPlainKeys (view w)) → (b ≡ true) ↔ HasPlainKeys (view x)
-plain-Tag b x n v w is e h =
-    subst (λ y. (b ≡ true) ↔ HasPlainKeys y) (sym (ap view is ∙ view-Tag n v))
-    (subst (λ y. (b ≡ true) ↔ HasPlainKeys (view y)) e h)
+  -- a map
+  pub plain-Map : (x : Cbor) (v : Vec (Cbor × Cbor) Global) (ps : List (Cbor × Cbor)) → x ≡ Map v → ps ≡ v.items
+      → TellsPlain (PairsHavePlainKeys (pairs_view ps)) → TellsPlain (HasPlainKeys (view x))
+  plain-Map x v ps is e h =
+      subst (λ w. TellsPlain (HasPlainKeys w)) (sym (ap view is ∙ view-Map v))
+      (subst (λ qs. TellsPlain (PairsHavePlainKeys (pairs_view qs))) e h)
+
+  -- a tag
+  pub plain-Tag : (x : Cbor) (n : ℕ) (v : Box Cbor Global) (w : Cbor) → x ≡ Tag n v → w ≡ v.value
+      → TellsPlain (HasPlainKeys (view w)) → TellsPlain (HasPlainKeys (view x))
+  plain-Tag x n v w is e h =
+      subst (λ y. TellsPlain (HasPlainKeys y)) (sym (ap view is ∙ view-Tag n v))
+      (subst (λ y. TellsPlain (HasPlainKeys (view y))) e h)
 
 -- ---- plain keys are distinct
 

@@ -1,5 +1,5 @@
 -- Which reason an item isn't written for.
-use Rattle.std.proofs.Common.{◌≡◌, ℕ, ◌<◌, ◌≤◌, Bool, true, false, ltb, refl, sym, subst, arith, inl, inr, ◌⊎◌}
+use Rattle.std.proofs.Common.{◌≡◌, ◌↔◌, ℕ, ◌<◌, ◌≤◌, max, Bool, true, false, ltb, refl, sym, subst, arith, inl, inr, ◌⊎◌}
 use Rattle.std.specs.Bool.{IsTrue}
 use Rattle.std.proofs.lemmas.Bool.{ltb-true, ltb-false}
 use Rattle.c2_spec.specs.Cbor.Item.{Item}
@@ -10,7 +10,7 @@ use Rattle.c2_spec.specs.declared.cbor.EncodeError.TheVariants.{BadSimple, Dupli
 use Rattle.c2_cbor_spec.specs.Fine.{Fine}
 use Rattle.c2_cbor_spec.proofs.BadSimple.{fine_no_bad}
 use Rattle.c2_cbor_write.proofs.EqualKeys.{distinct_not_equal}
-use Rattle.c2_lemmas.proofs.Bools.{true_not_false}
+use Rattle.c2_lemmas.proofs.Bools.{true_not_false, from_false}
 
 -- this error, or out of memory in its place
 abbrev Answers : EncodeError → EncodeError → Type 0
@@ -44,6 +44,17 @@ pub not_deeper : (b : Bool) (d : ℕ) → (64 < d → IsTrue b) → b ≡ false 
 not_deeper b d h e =
     elim (ltb 64 d) as (λ t. ltb 64 d ≡ t → d ≤ 64)
     [ true ↦ λ p. absurd (true_not_false b (h (ltb-true 64 d p)) e) | false ↦ λ p. ltb-false 64 d p ] refl
+
+-- what is left is deeper, where a part before it isn't, exactly where the whole is
+pub deeper_left : (b : Bool) (levels whole left part rest : ℕ) → left ≡ max part rest → (levels < part → IsTrue b)
+    → b ≡ false → ((levels < left) ↔ (levels < whole)) → (levels < rest) ↔ (levels < whole)
+deeper_left b levels whole left part rest e f is h =
+    let shallow : levels < part → ⊥ = from_false b (levels < part) f is in (
+      λ lt. h.0 (omega (arith, e, lt)),
+      λ lt. let l = h.1 lt in
+          elim (ltb levels part) as (λ t. ltb levels part ≡ t → levels < rest)
+          [ true ↦ λ p. absurd (shallow (ltb-true levels part p)) | false ↦ λ p. omega (arith, e, l, ltb-false levels part p) ] refl,
+    )
 
 -- ---- an item that is too deep
 

@@ -1,19 +1,19 @@
 //! The deterministic bytes of an item.
 
-ghost use Rattle.std.specs.Prelude.{◌↔◌, ◌≡◌, ◌++◌, [], true, None, map, slice_index_or, IfOk, OnOk, length};
+ghost use Rattle.std.specs.Prelude.{◌↔◌, ◌≡◌, ◌<◌, ◌++◌, [], true, None, map, slice_index_or, IfOk, OnOk, length};
 ghost use Rattle.c2_spec.specs.Cbor.View.{view, items_view, pairs_view};
 ghost use Rattle.c2_spec.specs.Cbor.Deterministic.{preferred_items, preferred_pairs};
 ghost use Rattle.c2_spec.specs.Cbor.Item.{no_pairs};
 ghost use Rattle.c2_spec.specs.Cbor.Deterministic.{deterministic, sorted_items, sorted_pairs};
 ghost use Rattle.c2_spec.specs.Cbor.Plain.{HasPlainKeys, ItemsHavePlainKeys, PairsHavePlainKeys};
 ghost use Rattle.c2_cbor_write.specs.Entries.{entry_bytes, entry_of, det_keys, det_values, value_at, AreKeysOf, KeysPlain, ValuesPlain};
-ghost use Rattle.c2_cbor_spec.specs.Marks.{StandIn, marks, LeastRepeated};
+ghost use Rattle.c2_cbor_spec.specs.Marks.{StandIn, marks, mark_at, LeastRepeated};
 
 use c2_cbor_heads::{least_repeated, push_head, push_preferred, sorted_keys};
 use c2_spec::Cbor;
 use std::alloc::{AllocError, Global};
 
-// What is pushed is answered with whether it is plain: whether no map has two keys with the same deterministic bytes. (No tail calls: the clauses of a callee hold of its value, which `?` gives.)
+// What is pushed is answered with whether it is plain: whether no map has two keys with the same deterministic bytes.
 
 // Whether both are.
 fn both(a: bool, b: bool) -> bool
@@ -31,18 +31,15 @@ fn push_deterministic(alloc: Global, out: &mut Vec<u8>, item: &Cbor) -> Result<b
     match item {
         Cbor::List(items) => {
             push_head(out, 4, items.len() as u64)?;
-            let plain = push_deterministic_items(alloc, out, items)?;
-            Ok(plain)
+            push_deterministic_items(alloc, out, items)
         }
         Cbor::Map(pairs) => {
             push_head(out, 5, pairs.len() as u64)?;
-            let plain = push_deterministic_pairs(alloc, out, pairs)?;
-            Ok(plain)
+            push_deterministic_pairs(alloc, out, pairs)
         }
         Cbor::Tag(n, inner) => {
             push_head(out, 6, *n)?;
-            let plain = push_deterministic(alloc, out, inner)?;
-            Ok(plain)
+            push_deterministic(alloc, out, inner)
         }
         _ => {
             push_preferred(out, item)?;
@@ -130,7 +127,7 @@ fn string_len(pairs: &[(Cbor, Cbor)], at: usize) -> usize {
     }
 }
 
-// Takes room for the values of the next pairs.
+// Before the first of so many pairs takes room for the values of these.
 fn take_room(
     out: &mut Vec<u8>,
     pairs: &[(Cbor, Cbor)],
@@ -139,6 +136,9 @@ fn take_room(
 ) -> Result<(), AllocError>
     ensures { OnOk result (out.new.items ≡ out.old.items) }
 {
+    if from % PAIRS_AT_ONCE != 0 {
+        return Ok(());
+    }
     let mut room: usize = 0;
     for i in from..keys.len().min(from.saturating_add(PAIRS_AT_ONCE)) {
         room = room.saturating_add(string_len(pairs, keys[i].2));
@@ -159,11 +159,29 @@ fn push_key(
     ensures { OnOk result (out.new.items ≡ out.old.items ++ key.now) }
 {
     match pairs.get(at) {
-        Some((Cbor::Uint(n), _)) => push_head(out, 0, *n)?,
-        Some((Cbor::Nint(n), _)) => push_head(out, 1, *n)?,
-        _ => out.extend_from_slice(key)?,
+        Some((Cbor::Uint(n), _)) => push_head(out, 0, *n),
+        Some((Cbor::Nint(n), _)) => push_head(out, 1, *n),
+        _ => {
+            out.extend_from_slice(key)?;
+            Ok(())
+        }
     }
-    Ok(())
+}
+
+// The key with this number among the sorted ones.
+fn push_sorted_key(
+    out: &mut Vec<u8>,
+    pairs: &[(Cbor, Cbor)],
+    keys: &[(u64, &[u8], usize)],
+    i: usize,
+) -> Result<(), AllocError>
+    requires inside { i < length keys.now }
+    requires theirs { AreKeysOf pairs.now keys.now }
+    ensures { OnOk result (out.new.items
+        ≡ out.old.items ++ (mark_at (marks keys.now) i).1) }
+{
+    take_room(out, pairs, keys, i)?;
+    push_key(out, pairs, keys[i].1, keys[i].2)
 }
 
 // Each key, and the value of the pair that it numbers.
@@ -182,10 +200,7 @@ fn push_sorted(
 {
     let mut plain = true;
     for i in 0..keys.len() {
-        if i % PAIRS_AT_ONCE == 0 {
-            take_room(out, pairs, keys, i)?;
-        }
-        push_key(out, pairs, keys[i].1, keys[i].2)?;
+        push_sorted_key(out, pairs, keys, i)?;
         let this = push_value(alloc, out, pairs, keys[i].2)?;
         plain = both(plain, this);
     }

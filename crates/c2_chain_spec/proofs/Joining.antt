@@ -17,11 +17,11 @@ use Rattle.c2_rules.proofs.ReachLemmas.{place_is, placed, reaches_decides}
 use Rattle.c2_chain_spec.specs.Joined.{ChainsJoin, IsReachedInJoin, NoneClashes, has_manifest, is_carried, joined, joined_roots, picked, place_in}
 use Rattle.c2_chain_spec.specs.Rooted.{AllReadKinds, HoldBy, IsReachedFrom, IsRedactedBy, IsRooted, is_reached_from, redacted_by, seen_by, standing_by}
 use Rattle.c2_chain_spec.specs.Rooted.IsReachedFrom.{is_root, is_below}
-use Rattle.c2_chain_spec.proofs.Places.{contains_either, contains_left, contains_right, from_right, get_left, member_of, picked_at, picked_differ, picked_of, picked_order, to_right}
+use Rattle.c2_chain_spec.proofs.Places.{contains_either, contains_left, contains_right, from_right, get_left, picked_at, picked_differ, picked_of, picked_order, to_right}
 use Rattle.c2_chain_spec.proofs.Seeing.{IsBefore, SeenAgain, hold_again, lacks_redacted, named_before, passing_same}
 use Rattle.c2_chain_spec.proofs.Standing.{ChildTo, Joins, ReachFrom, ReachTo, Stands, child_to, holds_a, holds_b, reach_back, reach_closed, reach_down, reach_from, reach_front, reach_to, reach_within, redacted_decides, shared_reached, standing_is}
 use Rattle.c2_lemmas.proofs.Bools.{and_true, both_true, not_true_is_false, or_cases, or_second, same_test}
-use Rattle.c2_lemmas.proofs.Each.{at_contains, contains_at}
+use Rattle.c2_lemmas.proofs.Each.{at_contains, contains_at, member_of}
 use Rattle.c2_lemmas.proofs.Options.{some_at}
 use Rattle.c2_rules.proofs.ReachLemmas.{one_more}
 

@@ -14,15 +14,6 @@ pub all_members : {X : Type 0} (P : X → Type 0) (xs : List X) → ((x : X) →
 all_members P [] h = tt
 all_members P (x ∷ xs) h = (h x (contains_head x xs), all_members P xs (λ y c. h y (contains_tail x y xs c)))
 
--- what holds of all members holds of each
-pub member_of : {X : Type 0} (P : X → Type 0) (xs : List X) (x : X) → AllByRecursion P xs → Contains xs x → P x
-member_of P [] x h c = absurd (contains_none x c)
-member_of {X} P (y ∷ ys) x h c = by (member_of P ys x h.1) (contains_cons y x ys c)
-  where
-    by : (Contains ys x → P x) → (y ≡ x) ⊎ Contains ys x → P x
-    by rest (inl same) = subst P same h.0
-    by rest (inr more) = rest more
-
 -- a member of the first of two lists
 pub contains_left : {X : Type 0} (xs ys : List X) (x : X) → Contains xs x → Contains (xs ++ ys) x
 contains_left [] ys x c = absurd (contains_none x c)

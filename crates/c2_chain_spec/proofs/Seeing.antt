@@ -27,9 +27,10 @@ use Rattle.c2_rules.proofs.ListLemmas.{contains_cons, contains_none}
 use Rattle.c2_rules.proofs.Conditions.{Holds}
 use Rattle.c2_chain_spec.specs.Older.{Alike, StaysAlike, has_signature, is_kept}
 use Rattle.c2_chain_spec.specs.Rooted.{ReadsKinds, lists_passing, place_standing_by, seen_by, standing_by, touched_by}
-use Rattle.c2_chain_spec.proofs.Places.{all_members, member_of}
+use Rattle.c2_chain_spec.proofs.Places.{all_members}
 use Rattle.c2_chain_spec.proofs.OlderRules.{without_boxes}
 use Rattle.c2_lemmas.proofs.Bools.{or_cases, or_second}
+use Rattle.c2_lemmas.proofs.Each.{member_of}
 
 -- ---- lists of tests
 

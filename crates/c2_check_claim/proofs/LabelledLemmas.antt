@@ -12,7 +12,7 @@ use Rattle.c2_rules.specs.Chains.{entry_label}
 use Rattle.c2_rules.specs.Readings.{ReadBox, Reading, entries_in}
 use Rattle.c2_rules.specs.Rules.{box_with, lists_label}
 use Rattle.c2_check_claim.specs.Labelled.{box_labels, entry_labels}
-use Rattle.c2_lemmas.proofs.Lists.{position_from_map, some_position}
+use Rattle.c2_lemmas.proofs.Lists.{position_map, some_position}
 use Rattle.c2_lemmas.proofs.Numbers.{ltb_less, ltb_not_less}
 
 -- ---- labels of what a list has, one after the other
@@ -38,12 +38,6 @@ pub all_of : {X : Type 0} (f : X → Option (List ℕ)) (xs : List X) (k : ℕ) 
 all_of f xs k p le h = subst (λ ys. ArePlaces (map f ys) p) (take_all k xs le) h
 
 -- ---- the first place
-
--- the first place of a label is that of the first thing with such a label
-position_map : {X Y : Type 0} (f : X → Y) (p : Y → Bool) (xs : List X)
-    → position p (map f xs) ≡ position (λ x. p (f x)) xs
-position_map f p xs =
-    position_from-zero p (map f xs) ∙ position_from_map f p 0 xs ∙ sym (position_from-zero (λ x. p (f x)) xs)
 
 -- the first place, where there is one, stands before this place
 abbrev pub is_before : ℕ → Option ℕ → Bool

@@ -1,4 +1,3 @@
 pub mod DigestLemmas
 pub mod FactLemmas
 pub mod PlaceLemmas
-pub mod Texts

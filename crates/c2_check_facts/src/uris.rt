@@ -19,7 +19,7 @@ pub fn claim_label<'c>(own: &'c ReadManifest<'_>) -> Option<&'c str>
 }
 
 /// This fails at the manifest.
-#[tactic(auto, using(crate::proofs::Texts::nothing_after))]
+#[tactic(auto, using(c2_lemmas::proofs::Lists::nothing_after))]
 pub fn at_manifest(
     alloc: Global,
     own: &ReadManifest<'_>,

@@ -3,6 +3,7 @@
 //! What a claim is stands in `Claim` and `Fields` of c2_spec, what is written of one in `Written`.
 #![tactic(auto)]
 
+mod last_fields;
 mod laws;
 mod reading;
 mod redactions;

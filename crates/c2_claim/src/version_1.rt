@@ -1,13 +1,25 @@
 // Reading a claim of version 1.
-ghost use Rattle.c2_claim.specs.Apart.{v1_claim_apart, redactions_of};
+ghost use Rattle.c2_claim.specs.Apart.{AgreesOn, v1_claim_apart, v1_own, redactions_of};
 ghost use Rattle.c2_spec.specs.Cbor.View.{view};
 ghost use Rattle.c2_spec.specs.C2pa.Claim.{Agrees};
 
-use crate::redactions::redactions;
-use c2_base::Texts;
-use c2_cbor_fields::field;
+use crate::last_fields::last_fields;
+use c2_base::{Text, Texts};
 use c2_spec::{Cbor, Claim, ClaimError, ClaimField, ClaimVersion, Refs};
 use std::alloc::Global;
+
+// The signature and the assertions of a claim of version 1, or the first field that is refused.
+fn own_fields(alloc: Global, item: &Cbor) -> Result<(Text, Refs), ClaimError>
+    ensures { AgreesOn (v1_own (view item.now)) result }
+{
+    let Some(signature) = c2_cbor_fields::text(alloc, item, "signature")? else {
+        return Err(ClaimError::Fields(ClaimField::Signature));
+    };
+    let Some(created) = c2_cbor_fields::references(alloc, item, "assertions")? else {
+        return Err(ClaimError::Fields(ClaimField::Assertions));
+    };
+    Ok((signature, created))
+}
 
 /// The claim of version 1 that an item is with these redactions, which may be held apart, or the first field that is refused (C2PA
 /// Technical Specification 2.x, "Claims"). All its assertions count as created.
@@ -18,21 +30,14 @@ pub fn read_version_1(alloc: Global, item: &Cbor, texts: Option<Texts>) -> Resul
     if !c2_cbor_fields::is_map(item) {
         return Err(ClaimError::Fields(ClaimField::Whole));
     }
-    let Some(signature) = c2_cbor_fields::text(alloc, item, "signature")? else {
-        return Err(ClaimError::Fields(ClaimField::Signature));
-    };
-    let Some(created) = c2_cbor_fields::references(alloc, item, "assertions")? else {
-        return Err(ClaimError::Fields(ClaimField::Assertions));
-    };
-    let Some(redacted) = redactions(alloc, item, texts)? else {
-        return Err(ClaimError::Fields(ClaimField::Redacted));
-    };
-    let Some(alg) = c2_cbor_fields::optional_text(alloc, item, "alg")? else {
-        return Err(ClaimError::Fields(ClaimField::Alg));
-    };
-    if field(item, "created_assertions").is_some() {
-        return Err(ClaimError::Fields(ClaimField::Created));
-    }
+    let (signature, created) = own_fields(alloc, item)?;
+    let (redacted, alg) = last_fields(
+        alloc,
+        item,
+        texts,
+        "created_assertions",
+        ClaimField::Created,
+    )?;
     let instance = c2_cbor_fields::text(alloc, item, "instanceID")?;
     Ok(Claim {
         version: ClaimVersion::V1,

@@ -1,13 +1,39 @@
 // Reading a claim of version 2.
-ghost use Rattle.c2_claim.specs.Apart.{v2_claim_apart, redactions_of};
+ghost use Rattle.c2_claim.specs.Apart.{AgreesOn, v2_claim_apart, v2_lists, v2_names, redactions_of};
 ghost use Rattle.c2_spec.specs.Cbor.View.{view};
 ghost use Rattle.c2_spec.specs.C2pa.Claim.{Agrees};
 
-use crate::redactions::redactions;
-use c2_base::Texts;
-use c2_cbor_fields::field;
-use c2_spec::{Cbor, Claim, ClaimError, ClaimField, ClaimVersion};
+use crate::last_fields::last_fields;
+use c2_base::{Text, Texts};
+use c2_spec::{Cbor, Claim, ClaimError, ClaimField, ClaimVersion, Refs};
 use std::alloc::Global;
+
+// The instance and the signature of a claim of version 2, or the first field that is refused.
+fn names(alloc: Global, item: &Cbor) -> Result<(Text, Text), ClaimError>
+    ensures { AgreesOn (v2_names (view item.now)) result }
+{
+    let Some(instance) = c2_cbor_fields::text(alloc, item, "instanceID")? else {
+        return Err(ClaimError::Fields(ClaimField::InstanceId));
+    };
+    let Some(signature) = c2_cbor_fields::text(alloc, item, "signature")? else {
+        return Err(ClaimError::Fields(ClaimField::Signature));
+    };
+    Ok((instance, signature))
+}
+
+// The created and the gathered assertions of a claim of version 2, or the first list that is refused.
+fn lists(alloc: Global, item: &Cbor) -> Result<(Refs, Refs), ClaimError>
+    ensures { AgreesOn (v2_lists (view item.now)) result }
+{
+    let Some(created) = c2_cbor_fields::references(alloc, item, "created_assertions")? else {
+        return Err(ClaimError::Fields(ClaimField::Created));
+    };
+    let Some(gathered) = c2_cbor_fields::optional_references(alloc, item, "gathered_assertions")?
+    else {
+        return Err(ClaimError::Fields(ClaimField::Gathered));
+    };
+    Ok((created, gathered))
+}
 
 /// The claim of version 2 that an item is with these redactions, which may be held apart, or the first field that is refused (C2PA
 /// Technical Specification 2.x, "Claims").
@@ -18,28 +44,9 @@ pub fn read_version_2(alloc: Global, item: &Cbor, texts: Option<Texts>) -> Resul
     if !c2_cbor_fields::is_map(item) {
         return Err(ClaimError::Fields(ClaimField::Whole));
     }
-    let Some(instance) = c2_cbor_fields::text(alloc, item, "instanceID")? else {
-        return Err(ClaimError::Fields(ClaimField::InstanceId));
-    };
-    let Some(signature) = c2_cbor_fields::text(alloc, item, "signature")? else {
-        return Err(ClaimError::Fields(ClaimField::Signature));
-    };
-    let Some(created) = c2_cbor_fields::references(alloc, item, "created_assertions")? else {
-        return Err(ClaimError::Fields(ClaimField::Created));
-    };
-    let Some(gathered) = c2_cbor_fields::optional_references(alloc, item, "gathered_assertions")?
-    else {
-        return Err(ClaimError::Fields(ClaimField::Gathered));
-    };
-    let Some(redacted) = redactions(alloc, item, texts)? else {
-        return Err(ClaimError::Fields(ClaimField::Redacted));
-    };
-    let Some(alg) = c2_cbor_fields::optional_text(alloc, item, "alg")? else {
-        return Err(ClaimError::Fields(ClaimField::Alg));
-    };
-    if field(item, "assertions").is_some() {
-        return Err(ClaimError::Fields(ClaimField::Assertions));
-    }
+    let (instance, signature) = names(alloc, item)?;
+    let (created, gathered) = lists(alloc, item)?;
+    let (redacted, alg) = last_fields(alloc, item, texts, "assertions", ClaimField::Assertions)?;
     Ok(Claim {
         version: ClaimVersion::V2,
         signature,

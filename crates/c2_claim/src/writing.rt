@@ -58,8 +58,8 @@ fn add_field(
     ensures { OnOk result (map pair_view fields.new.items
         ≡ map pair_view fields.old.items ++ field name.now (view value) ∷ []) }
 {
-    let key = Cbor::Text(Text::copied(alloc, name)?);
-    fields.push((key, value))?;
+    let key = Text::copied(alloc, name)?;
+    fields.push((Cbor::Text(key), value))?;
     Ok(())
 }
 

@@ -80,6 +80,13 @@ pub record LeavesSource {S : Type 0} (len : S → ℕ) (known : S → Option (Li
   pub stays : StaysSource len known faults old new
   pub quiet : OnOk result (faults new ≡ faults old)
 
+-- what is left of the sources
+pub record LeavesSources {A B C D : Type 0} (a : SourceUse A) (b : SourceUse B) (c : SourceUse C) (d : SourceUse D) (result : Result Reply Fault) : Type 0 where
+  pub media : LeavesSource a.len a.known a.faults a.old a.new result
+  pub second : LeavesSource b.len b.known b.faults b.old b.new result
+  pub third : LeavesSource c.len c.known c.faults c.old c.new result
+  pub fourth : LeavesSource d.len d.known d.faults d.old d.new result
+
 -- What is left of the sink for the new file: what it took stays, and by a reply its count of faults; a count that rose leaves it
 -- unfinished; and whether one that the command names is finished, by the result.
 pub record LeavesOut {K : Type 0} (written : K → Option (List ℕ)) (finished : K → Bool) (faults : K → ℕ) (named : Bool) (old new : K) (result : Result Reply Fault) : Type 0 where
@@ -98,3 +105,10 @@ pub record LeavesReport {W : Type 0} (written : W → Option (List ℕ)) (finish
   pub unfinished : finished new ≡ finished old
   pub unwritten : whole ≡ true → new ≡ old
   pub judged : IfErr result (λ e. e ≡ Judge → new ≡ old)
+
+-- what is left of each object: the sources, the sink for the new file, the report, and the judges
+pub record LeavesEach (Sources Out Report Panel : Type 0) : Type 0 where
+  pub sources : Sources
+  pub out : Out
+  pub report : Report
+  pub judges : Panel

@@ -8,7 +8,7 @@ ghost use Rattle.c2_usage.specs.CommandLine.{is_out};
 ghost use Rattle.c2_cmd_outcome.specs.Left.{Delivers, state_of};
 ghost use Rattle.c2_cmd_outcome.specs.Outcome.{Outcome};
 ghost use Rattle.c2_cmd_outcome.specs.Reply.{end_of};
-ghost use Rattle.c2_cmd.specs.Left.{KeepsOut, KeepsPanel, KeepsReport, KeepsSources, LeavesOut, LeavesReport, LeavesSource};
+ghost use Rattle.c2_cmd.specs.Left.{KeepsOut, KeepsPanel, KeepsReport, KeepsSources, LeavesEach, LeavesOut, LeavesReport, LeavesSources};
 ghost use Rattle.c2_cmd.specs.Outcome.{digest_alg, has_whole_report, names};
 ghost use Rattle.c2_cmd.specs.Run.{ComesTo, Faults, IsCaused, IsKnown, LeavesUnused, RepliesTo, RunState, RunsTo, Untouched, call_of, roles_in};
 
@@ -156,7 +156,6 @@ pub fn run<H: Hashing, A: Source, B: Source, C: Source, D: Source, K: Sink, W: S
 }
 
 // The reply to a command line. `compare` alone writes to the report; only a command that embeds, `strip` and `extract` write to the new file.
-#[tactic(auto, using(crate::proofs::Keeping::idle_source, crate::proofs::Keeping::idle_report, crate::proofs::Keeping::idle_panel))]
 fn reply_to<H: Hashing, A: Source, B: Source, C: Source, D: Source, K: Sink, W: Sink>(
     alloc: Global,
     hashing: &H,
@@ -218,17 +217,17 @@ fn reply_to<H: Hashing, A: Source, B: Source, C: Source, D: Source, K: Sink, W: 
           judges = judges.new ≡ judges.old;
         } in
         LeavesUnused call untouched }
-    ensures media { LeavesSource A.len A.known A.faults media.old media.new result }
-    ensures second { LeavesSource B.len B.known B.faults second.old second.new result }
-    ensures third { LeavesSource C.len C.known C.faults third.old third.new result }
-    ensures fourth { LeavesSource D.len D.known D.faults fourth.old fourth.new result }
-    ensures out { let named = names is_out (roles_in words.now.items) in
-        LeavesOut K.written K.finished K.faults named out.old out.new result }
-    ensures report { let whole = has_whole_report (roles_in words.now.items) in
-        LeavesReport W.written W.finished W.faults whole report.old report.new result }
-    ensures judges { let old = judges_of says asked_times judge_faults judges.old.items in
+    ensures leaves { let named = names is_out (roles_in words.now.items) in
+        let whole = has_whole_report (roles_in words.now.items) in
+        let old = judges_of says asked_times judge_faults judges.old.items in
         let new = judges_of says asked_times judge_faults judges.new.items in
-        LeavesJudges old new result }
+        LeavesEach (LeavesSources (use_of A.len A.known A.faults media.old media.new)
+        (use_of B.len B.known B.faults second.old second.new)
+        (use_of C.len C.known C.faults third.old third.new)
+        (use_of D.len D.known D.faults fourth.old fourth.new) result)
+        (LeavesOut K.written K.finished K.faults named out.old out.new result)
+        (LeavesReport W.written W.finished W.faults whole report.old report.new result)
+        (LeavesJudges old new result) }
 {
     let found = match roles(alloc, words) {
         Ok(found) => found,

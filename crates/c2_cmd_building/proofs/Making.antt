@@ -19,21 +19,17 @@ use Rattle.c2_cmd_outcome.specs.Outcome.{IsOneOutcome}
 use Rattle.c2_cmd_outcome.specs.Reply.{IsFaultOf, IsReplyTo}
 use Rattle.c2_cmd_outcome.specs.declared.reply.Fault.{Fault}
 use Rattle.c2_cmd_outcome.specs.declared.reply.Reply.{Reply}
-use Rattle.c2_cmd_written_spec.specs.Builds.{build_says, embedded_outcome, range_outcome}
-use Rattle.c2_cmd_written_spec.proofs.Builds.{WritesNew, build_ends, build_fits, build_met, build_outcome, new_bytes}
+use Rattle.c2_cmd_written_spec.specs.Builds.{build_says, embedded_outcome}
+use Rattle.c2_cmd_written_spec.proofs.Builds.{WritesNew, build_ends, build_fits, build_met, build_outcome, new_bytes, range_reported}
 use Rattle.c2_cmd_written_spec.proofs.Calls.{makes_reply}
 use Rattle.c2_cmd_written_spec.proofs.Left.{written_as}
 use Rattle.c2_cmd_building.specs.Outcomes.{IsEmbedOutcome, embed_outcome, file_bytes, file_report}
 use Rattle.c2_cmd_building.specs.Writing.{BuildsFile}
 
--- a range that is answered is reported as that of its file
-range_same : (x : Embedded) (b : Built) → HasRange x b → embedded_outcome x ≡ file_report b
-range_same x b h = ap (λ (n : ℕ). range_outcome n x.length) h.start ∙ ap (range_outcome b.start) h.length
-
 -- a range or an error that is answered is what the inputs come to
 range_comes : (Is : Result Built BuildError → Type 0) (r : Result Embedded BuildError) → ComesAs HasRange Is r
     → ComesAs (λ (x : Embedded) (b : Built). embedded_outcome x ≡ file_report b) Is r
-range_comes Is (Ok x) h = (h.0, h.1, range_same x h.0 h.2)
+range_comes Is (Ok x) h = (h.0, h.1, range_reported x h.0.start h.0.len h.2.start h.2.length)
 range_comes Is (Err e) h = h
 
 -- the bytes of what the inputs come to

@@ -7,15 +7,15 @@ use Rattle.c2_new_front_spec.specs.Outcomes.{NewFile}
 use Rattle.c2_build_refusals.specs.Kinds.{ComesAs, HasOutcome}
 use Rattle.c2_build_refusals.specs.declared.error.BuildError.{BuildError}
 use Rattle.c2_build_refusals.specs.declared.types.Embedded.{Embedded}
-use Rattle.c2_build_front.specs.Answers.{HasRange, IsRangeOf, file_of}
+use Rattle.c2_build_front.specs.Answers.{IsRangeOf, file_of}
 use Rattle.c2_build_front.specs.Errors.{IsAnswerTo, error_of}
 use Rattle.c2_cmd_outcome.specs.Outcome.{Outcome}
 use Rattle.c2_cmd_outcome.specs.Reply.{IsReplyTo, outcome_of}
 use Rattle.c2_cmd_outcome.specs.declared.reply.Fault.{Fault}
 use Rattle.c2_cmd_outcome.specs.declared.reply.Reply.{Reply}
-use Rattle.c2_cmd_written_spec.specs.Builds.{build_says, embedded_outcome, range_outcome, result_outcome, tbs_outcome}
+use Rattle.c2_cmd_written_spec.specs.Builds.{build_says, embedded_outcome, result_outcome, tbs_outcome}
 use Rattle.c2_build_endings.specs.Endings.{build_ending}
-use Rattle.c2_cmd_written_spec.proofs.Builds.{WritesNew, build_outcome, build_replied, new_bytes}
+use Rattle.c2_cmd_written_spec.proofs.Builds.{WritesNew, build_outcome, build_replied, new_bytes, range_reported}
 use Rattle.c2_cmd_written_spec.specs.Refused.{with_error}
 use Rattle.c2_cmd_written_spec.proofs.Calls.{IsOutcomeOf}
 use Rattle.c2_cmd_written_spec.proofs.Refused.{ComesWith, one_with, refused_comes}
@@ -39,14 +39,10 @@ plan_replied Is r (Err f) answers reports = tt
 
 -- ---- a new file
 
--- a range that is answered is reported as that of its file
-range_same : (x : Embedded) (b : NewFile) → HasRange b x → embedded_outcome x ≡ file_report b
-range_same x b h = ap (λ (n : ℕ). range_outcome n x.length) h.start ∙ ap (range_outcome b.start) h.length
-
 -- a range or an error that is answered is what the inputs come to
 range_comes : (Is : Result NewFile FrontRefusal → Type 0) (r : Result Embedded BuildError) → IsRangeOf Is r
     → ComesAs (λ (x : Embedded) (b : NewFile). embedded_outcome x ≡ file_report b) (ComesWith error_of Is) r
-range_comes Is (Ok x) h = (h.0, (Ok h.0, h.1, refl), range_same x h.0 h.2)
+range_comes Is (Ok x) h = (h.0, (Ok h.0, h.1, refl), range_reported x h.0.start h.0.len h.2.start h.2.length)
 range_comes Is (Err e) h = refused_comes error_of Is e h
 
 -- the bytes of what the inputs come to

@@ -1,5 +1,5 @@
 -- What `list` reports of a store that was found.
-use Rattle.std.proofs.Common.{◌≡◌, refl, sym, ◌∙◌, ap, subst, ◌⊎◌, inl, inr, List, ℕ, Option, Some}
+use Rattle.std.proofs.Common.{◌≡◌, refl, sym, ◌∙◌, subst, ◌⊎◌, List, ℕ, Option, Some}
 use Rattle.c2_base.specs.declared.media.Found.{Found}
 use Rattle.c2_spec.specs.Jumbf.Faults.{JumbfFault}
 use Rattle.c2_spec.specs.Jumbf.Tree.{Tree, SpellsTree}
@@ -14,12 +14,7 @@ use Rattle.c2_cmd_reading.specs.Reading.{ListsStore}
 use Rattle.c2_cmd_outcome.specs.Reply.{outcome_of}
 use Rattle.c2_cmd_outcome.specs.declared.reply.Reply.{Reply}
 use Rattle.c2_cmd_outcome.specs.declared.types.Answer.TheVariants as answer
-
--- an error that refuses something is not that memory ran out
-faulty : (bytes : List ℕ) (e : JumbfError) (r : Refusal) → boxes_refusal e ≡ Some r
-    → (e ≡ boxes.NoMemory) ⊎ JumbfFault bytes e → JumbfFault bytes e
-faulty bytes e r refuses (inl memory) = absurd (let both = sym refuses ∙ ap boxes_refusal memory in cc (both))
-faulty bytes e r refuses (inr fault) = fault
+use Rattle.c2_spec.proofs.JumbfRefusals.{faulty}
 
 -- bytes that spell a box tree
 pub lists_tree : (f : Found) (bytes : List ℕ) (t : Tree) (reply : Reply) → bytes ≡ f.store → SpellsTree bytes t

@@ -4,19 +4,17 @@ use Rattle.c2_read_manifests.proofs.TheLaws.{one_list_of_claims, one_reading_man
 use Rattle.c2_opening.proofs.TheLaws.{one_opening_file}
 use Rattle.c2_validate.proofs.TheLaws.{one_check_answer, one_external_check_answer}
 use Rattle.c2_compare_spec.proofs.TheLaws.{one_comparison_answer}
-use Rattle.std.proofs.Common.{◌≡◌, sym, ◌∙◌, ap, ℕ, List, Option, Some, None}
+use Rattle.std.proofs.Common.{◌≡◌, sym, ◌∙◌, ap, ℕ, List, Option}
 use Rattle.c2_base.specs.declared.values.Question.{Question}
 use Rattle.c2_spec.specs.declared.claim.Claim.{Claim}
 use Rattle.c2_spec.specs.declared.digest.Alg.{Alg}
 use Rattle.c2_spec.specs.declared.jumbf.JumbfError.{JumbfError}
 use Rattle.c2_spec.specs.declared.panel.Verdict.{Verdict}
-use Rattle.c2_spec.specs.declared.reason.Refusal.{Refusal}
 use Rattle.c2_spec.specs.C2pa.Manifest.{Manifest, manifests_of}
 use Rattle.c2_spec.specs.Container.{IsLocated}
 use Rattle.c2_spec.specs.Jumbf.Faults.{JumbfFault}
 use Rattle.c2_spec.specs.Jumbf.Tree.{Tree, SpellsTree}
-use Rattle.c2_spec.specs.Located.{Opening, Located, refused, absent, here, refused_by}
-use Rattle.c2_spec.specs.Reason.{boxes_refusal}
+use Rattle.c2_spec.specs.Located.{Opening, Located, refused, absent, here}
 use Rattle.c2_rules.specs.Claims.{HaveClaims}
 use Rattle.c2_rules.specs.Opened.{Opens, IsBoxTree, IsBoxed, IsOpened}
 use Rattle.c2_rules.specs.Readings.{Reading, AreReadings}
@@ -31,6 +29,7 @@ use Rattle.c2_validate.specs.declared.external.External.{External}
 use Rattle.c2_cmd_reading.specs.Laws.{OneReadingOutcome}
 use Rattle.c2_lemmas.proofs.Numbers.{one_after}
 use Rattle.c2_rules.proofs.OneAnswer.{one_opens}
+use Rattle.c2_rules.proofs.OneBoxTree.{one_box_tree}
 use Rattle.c2_spec.proofs.JumbfNoFault.{no_fault}
 use Rattle.c2_spec.proofs.JumbfOneFault.{first_once}
 use Rattle.c2_spec.proofs.JumbfOneTree.{spells_once}
@@ -70,24 +69,6 @@ these_laws =
     }
 
 -- ---- openings
-
--- an opening that is refused so
-abbrev opening_of : Option Refusal → Opening Tree
-opening_of None = absent
-opening_of (Some r) = refused_by r
-
--- the bytes of a store are one box tree at most, or are refused for one reason, never both
-one_box_tree : (start len : ℕ) (store : List ℕ) (x y : Opening Tree) → IsBoxTree start len store x
-    → IsBoxTree start len store y → x ≡ y
-one_box_tree start len store (refused r n) (refused q m) h k =
-    ap opening_of (sym h.2 ∙ ap boxes_refusal (first_once store h.0 k.0 h.1 k.1) ∙ k.2)
-one_box_tree start len store (refused r n) absent h k = absurd k
-one_box_tree start len store (refused r n) (here s l t) h k = absurd (no_fault store t h.0 k.0 h.1)
-one_box_tree start len store absent y h k = absurd h
-one_box_tree start len store (here s l t) (refused q m) h k = absurd (no_fault store t k.0 h.0 k.1)
-one_box_tree start len store (here s l t) absent h k = absurd k
-one_box_tree start len store (here s l t) (here p m u) h k =
-    h.1 ∙ ap (here start len) (spells_once store t u h.0 k.0) ∙ sym k.1
 
 -- a file is opened in one way at most: as a box tree, as refused for a reason, or as without a store
 one_boxed : (file : List ℕ) (x y : Opening Tree) → IsBoxed file x → IsBoxed file y → x ≡ y

@@ -3,17 +3,14 @@ use Rattle.std.proofs.Common.{◌≡◌, refl, sym, ◌∙◌, ap, subst, ℕ, L
 use Rattle.std.specs.Prelude.{◌≢◌, IfOk, Result}
 use Rattle.c2_base.specs.declared.media.Found.{Found}
 use Rattle.c2_spec.specs.declared.reason.Reason.{Reason}
-use Rattle.c2_spec.specs.declared.store.ManifestBoxes.{ManifestBoxes}
 use Rattle.c2_spec.specs.Container.{IsLocated}
 use Rattle.c2_spec.specs.Jumbf.Tree.{Tree}
 use Rattle.c2_spec.specs.Located.{Opening, Located, refused, absent, here}
-use Rattle.c2_rules.specs.Opened.{IsBoxTree, IsBoxed, IsManifestStore}
+use Rattle.c2_rules.specs.Opened.{IsBoxTree, IsBoxed}
 use Rattle.c2_rules.specs.declared.answer.Answer.{Answer as Checked}
-use Rattle.c2_opening.specs.Opened.{IsFound, IsStoreRead, tree_of}
+use Rattle.c2_opening.specs.Opened.{IsFound}
 use Rattle.c2_opening.specs.declared.types.Opened.{Opened}
 use Rattle.c2_opening.specs.declared.types.Opened.TheVariants as opened
-use Rattle.c2_opening.specs.declared.types.StoreRead.{StoreRead}
-use Rattle.c2_opening.specs.declared.types.StoreRead.TheVariants as read
 use Rattle.c2_cmd_outcome.specs.Outcome.{Outcome, Reports, answered, reports}
 use Rattle.c2_cmd_outcome.specs.Reply.{outcome_of}
 use Rattle.c2_cmd_outcome.specs.declared.reply.Fault.{Fault}
@@ -56,11 +53,6 @@ pub boxed_outcome : (file : List ℕ) (f : Found) (e : Outcome) → IsLocated fi
     → (what : Opening Tree) × IsBoxTree f.start f.length f.store what × Reports IsListing what e
     → (what : Opening Tree) × IsBoxed file what × Reports IsListing what e
 boxed_outcome file f e is h = (h.0, (here f.start f.length f.store, is, h.1), h.2)
-
--- a store that was read as manifests
-pub read_here : (f : Found) (r : StoreRead) (t : Tree) (s : List ManifestBoxes) → r ≡ read.Here t s → IsStoreRead f r
-    → IsManifestStore f.start f.length f.store (here f.start f.length t)
-read_here f r t s is h = subst (λ (x : StoreRead). IsManifestStore f.start f.length f.store (tree_of f x)) is h.store
 
 -- a file without a store, or one that is refused, is opened as what it is
 pub short_boxed : (file : List ℕ) (l : Located) (e : Outcome) → IsLocated file l → IsShort l e

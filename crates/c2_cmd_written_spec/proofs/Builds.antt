@@ -9,6 +9,7 @@ use Rattle.c2_build_refusals.specs.Kinds as kind
 use Rattle.c2_build_refusals.specs.Kinds.{ComesAs, HasOutcome, Effects, ErrorKind, IsSourceCause, KindSays, MayCome, kind_of}
 use Rattle.c2_build_refusals.specs.Sinks.{EndsOut, IsOutCause, IsSinkCause, KindLeaves}
 use Rattle.c2_build_refusals.specs.declared.error.BuildError.{BuildError}
+use Rattle.c2_build_refusals.specs.declared.types.Embedded.{Embedded}
 use Rattle.c2_build_endings.specs.Endings.{build_ending, kind_ending}
 use Rattle.c2_cmd_outcome.specs.Left.{SinkState, state_of}
 use Rattle.c2_cmd_outcome.specs.Outcome.{Outcome, reports}
@@ -16,7 +17,7 @@ use Rattle.c2_cmd_outcome.specs.Reply.{CausedBy, HasWhole, IsOutputCause, IsRepl
 use Rattle.c2_cmd_outcome.specs.declared.reply.Fault.{Fault}
 use Rattle.c2_cmd_outcome.specs.declared.reply.Reply.{Reply}
 use Rattle.c2_cmd_outcome.specs.declared.types.Answer.TheVariants as answer
-use Rattle.c2_cmd_written_spec.specs.Builds.{IsBuildReply, IsRefusalKind, IsRefusedBy, build_says, error_says, kind_fault, new_file_outcome, refused_build, result_outcome, unless_fault}
+use Rattle.c2_cmd_written_spec.specs.Builds.{IsBuildReply, IsRefusalKind, IsRefusedBy, build_says, embedded_outcome, error_says, kind_fault, new_file_outcome, range_outcome, refused_build, result_outcome, unless_fault}
 use Rattle.c2_cmd_written_spec.specs.Written.{with_file}
 use Rattle.c2_cmd_written_spec.proofs.Calls.{CausedIn, FitsEnding, FitsNew, IsOutcomeOf, outcome_of_call}
 
@@ -320,3 +321,11 @@ module _ {N : Type 0} (bytes : N → List ℕ) (told : N → Outcome) (Comes : R
       new (Ok x) comes =
           subst (λ (s : Result N BuildError). IsSome (new_file s)) (sym (one is.0 (Ok comes.0) is.1 comes.1)) refl
       new (Err e) comes = kind_new (kind_of e) e is.0 (kind_one (kind_of e) e is.0 one is.1 comes)
+
+-- ---- the range of a new file
+
+-- a range that has this start and this length is reported so
+pub range_reported : (x : Embedded) (start len : ℕ) → x.start ≡ start → x.length ≡ len
+    → embedded_outcome x ≡ range_outcome start len
+range_reported x start len same_start same_len =
+    ap (λ (n : ℕ). range_outcome n x.length) same_start ∙ ap (range_outcome start) same_len

@@ -1,5 +1,5 @@
 -- What a command leaves of the file that it writes, by how the call ended that wrote it.
-use Rattle.std.proofs.Common.{◌≡◌, ◌≢◌, refl, sym, ap, ◌∙◌, subst, inl, inr, ℕ, Bool, true, List, [], Option, Some, None, unwrap_or}
+use Rattle.std.proofs.Common.{◌≡◌, ◌≢◌, refl, sym, ap, ◌∙◌, subst, inl, inr, ℕ, Bool, List, [], Option, Some, None, unwrap_or}
 use Rattle.std.specs.Prelude.{⊤, IfErr, IfOk, IsSome, OnOk, Ok, Err}
 use Rattle.std.specs.declared.result.Result.{Result}
 use Rattle.std.proofs.lemmas.Bool.{false≢true}

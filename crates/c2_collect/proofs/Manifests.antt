@@ -1,5 +1,5 @@
 -- The manifests of a store by their indices in its tree, and as boxes.
-use Rattle.std.proofs.Common.{◌≡◌, ℕ, zero, suc, ◌<◌, Bool, List, [], ◌∷◌, length, map, Option, Some, None, slice_get, option_map, refl, sym, ap, ◌∙◌, subst, arith}
+use Rattle.std.proofs.Common.{◌≡◌, ℕ, ◌<◌, Bool, List, length, map, Option, Some, None, slice_get, option_map, refl, sym, ap, ◌∙◌, subst, arith}
 use Rattle.std.specs.Prelude.{option_and_then}
 use Rattle.std.proofs.lemmas.List.{length-map}
 use Rattle.std.proofs.lemmas.Option.{same_Some, slice_get-map}
@@ -7,7 +7,7 @@ use Rattle.c2_spec.specs.C2pa.Manifest.{IsStoreOf, manifest_boxes, superboxes}
 use Rattle.c2_spec.specs.Jumbf.Boxes.{any_bytes, any_label, box_at, node}
 use Rattle.c2_spec.specs.Jumbf.Tree.{AreDistinctLabels, IsLegalTree, IsNewLabel, Tree, Trees, leaf, more, none, super, tree_bytes, tree_label, tree_labels}
 use Rattle.c2_spec.specs.declared.store.ManifestBoxes.{ManifestBoxes}
-use Rattle.c2_new_file_spec.proofs.ByIndex.{At, Both, at_box, supers_any}
+use Rattle.c2_new_file_spec.proofs.ByIndex.{at_box, both_get, supers_any}
 use Rattle.c2_new_file_spec.specs.Manifests.{supers_in, supers_of}
 use Rattle.c2_new_file_spec.specs.Redacting.{boxes_in}
 use Rattle.c2_new_file_spec.proofs.Stores.{legal_inside, supers_are}
@@ -42,16 +42,6 @@ map_at f xs i x e = slice_get-map f xs i ∙ ap (option_map f) e
 pub mapped_is : {A B : Type 0} (f : A → B) (xs : List A) (i : ℕ) (x : A) (y : B) → slice_get (map f xs) i ≡ Some y
     → slice_get xs i ≡ Some x → y ≡ f x
 mapped_is f xs i x y e is = same_Some y (f x) (sym e ∙ map_at f xs i x is)
-
--- the box at a place, where its index stands there
-both_get : (t : Tree) (is : List ℕ) (ss : List Tree) (k i : ℕ) (s : Tree) → Both t is ss → slice_get is k ≡ Some i
-    → slice_get ss k ≡ Some s → At t i s
-unfolding Both
-both_get t [] ss k i s h e f = absurd (cc (e))
-both_get t (j ∷ is) [] k i s h e f = absurd h
-both_get t (j ∷ is) (u ∷ us) zero i s h e f =
-    subst (λ (n : ℕ). At t n s) (same_Some j i e) (subst (At t j) (same_Some u s f) h.0)
-both_get t (j ∷ is) (u ∷ us) (suc k) i s h e f = both_get t is us k i s h.1 e f
 
 -- as many manifests as the store has
 pub store_count : (t : Tree) (s : List ManifestBoxes) → IsStoreOf t s → length s ≡ length (supers_in (boxes_in t))

@@ -1,5 +1,5 @@
 -- Redactions of a chain of which none is refused may be made.
-use Rattle.std.proofs.Common.{◌≡◌, ⊎_elim, ℕ, ◌+◌, Bool, true, false, not, ◌&&◌, cond, List, [], ◌∷◌, ◌++◌, length, Option, Some, None, slice_get, refl, sym, ap, ◌∙◌, subst, bytes_eq}
+use Rattle.std.proofs.Common.{◌≡◌, ⊎_elim, ℕ, ◌+◌, Bool, true, false, ◌&&◌, List, [], ◌∷◌, ◌++◌, length, Option, Some, None, slice_get, refl, sym, ap, ◌∙◌, subst, bytes_eq}
 use Rattle.std.specs.Prelude.{option_map}
 use Rattle.std.specs.List.{AllByRecursion, list_any}
 use Rattle.std.specs.Option.{option_or}
@@ -7,38 +7,26 @@ use Rattle.std.proofs.lemmas.Bool.{not-false, false≢true}
 use Rattle.std.proofs.lemmas.Option.{same_Some, slice_get_within}
 use Rattle.std.proofs.lemmas.Slice.Eq.{bytes_eq-Decides}
 use Rattle.c2_spec.specs.C2pa.Assertion.{kind_of}
-use Rattle.c2_spec.specs.C2pa.Manifest.{is_given}
 use Rattle.c2_spec.specs.C2pa.Uri.{assertion, uri_of}
 use Rattle.c2_spec.specs.declared.assertion.Kind.TheVariants as kinds
-use Rattle.c2_rules.specs.Chains.{is_reached, label_in, named_in, names_assertion, passes_some}
+use Rattle.c2_rules.specs.Chains.{is_reached, label_in, names_assertion, passes_some}
 use Rattle.c2_rules.specs.Ingredients.{is_ingredient, is_ingredient_kind, is_ingredient_label}
 use Rattle.c2_rules.specs.Readings.{ReadBox, Reading, entries_in}
 use Rattle.c2_rules.specs.Rules.{lists_label, redaction_tests, target_tests, uri_tests}
 use Rattle.c2_rules.specs.Rules as rule
-use Rattle.c2_rules.specs.Tests.{Test, each, first_failing}
+use Rattle.c2_rules.specs.Tests.{each, first_failing}
 use Rattle.c2_rules.proofs.ListLemmas.{from_below, from_passes}
-use Rattle.c2_chain_spec.specs.Older.{has_signature, is_kept}
-use Rattle.c2_new_file_spec.proofs.Conditions.{Holds, all_hold}
-use Rattle.c2_new_file_spec.specs.Less.{SignsTaken}
+use Rattle.c2_chain_spec.specs.Older.{is_kept}
+use Rattle.c2_rules.proofs.Conditions.{Holds, all_hold, none_holds}
 use Rattle.c2_new_file_spec.specs.Redacting.{takes_out}
 use Rattle.c2_new_file_spec.specs.Refusing.{entry_tests, has_assertion, is_target, names_unsigned, new_claim_uri, refusal_after, refused_by}
 use Rattle.c2_collect_spec.specs.Refusals.{RedactionsAreAcceptedBy, RefusalsAreStanding, entry_tests_by, has_target_by, has_unsigned_by, refusal_after_by}
 use Rattle.c2_lemmas.proofs.Bools.{both_true, or_cases}
 use Rattle.c2_lemmas.proofs.Each.{each_append, each_back, each_front}
 use Rattle.c2_lemmas.proofs.Options.{map_none, none_first}
-use Rattle.c2_new_file_spec.proofs.Accepted.{below_false, child_label, each_box, named_uri, no_kind, none_unsigned}
+use Rattle.c2_new_file_spec.proofs.Accepted.{BoxFine, add_text, all_signed, below_false, each_box, named_uri, no_kind, none_unsigned}
 
 -- ---- an entry that isn't refused
-
--- a list without a first failure holds
-none_holds : (ts : List Test) → first_failing ts ≡ None → AllByRecursion Holds ts
-none_holds [] e = tt
-none_holds (t ∷ ts) e = go t.fails refl e (none_holds ts)
-  where
-    go : (b : Bool) → t.fails ≡ b → cond b (Some t.failing) (first_failing ts) ≡ None
-        → (first_failing ts ≡ None → AllByRecursion Holds ts) → AllByRecursion Holds (t ∷ ts)
-    go true f g k = absurd (cc (g))
-    go false f g k = (f, k g)
 
 -- what an entry passes, where it stands behind some
 record IsFine (reached : ℕ → Bool) (own : List ℕ) (rs : List Reading) (text : List ℕ) : Type 0 where
@@ -144,10 +132,6 @@ target_at reached own rs m l t =
 
 -- ---- signatures
 
--- no text names this box's manifest where the box lacks a signature
-abbrev BoxFine : List (List ℕ) → ReadBox → Type 0
-BoxFine texts b = AllByRecursion (λ (text : List ℕ). names_unsigned (uri_of text) b ≡ false) texts
-
 -- none of the boxes of a reached manifest lacks a signature, of one text
 signed_boxes : (reached : ℕ → Bool) (rs : List Reading) (i : ℕ) (r : Reading) (text : List ℕ) → reached i ≡ true
     → slice_get rs i ≡ Some r → has_unsigned_by reached rs text ≡ false
@@ -159,14 +143,6 @@ signed_boxes reached rs i r text there is h =
     none_unsigned (uri_of text) r.boxes
     (sym (ap (λ x. x && passes_some f (slice_get rs i)) there ∙ ap (passes_some f) is) ∙ at)
 
--- box by box, of one more text
-add_text : (text : List ℕ) (texts : List (List ℕ)) (boxes : List ReadBox)
-    → AllByRecursion (λ (b : ReadBox). names_unsigned (uri_of text) b ≡ false) boxes
-    → AllByRecursion (BoxFine texts) boxes
-    → AllByRecursion (BoxFine (text ∷ texts)) boxes
-add_text text texts [] h k = tt
-add_text text texts (b ∷ boxes) h k = ((h.0, k.0), add_text text texts boxes h.1 k.1)
-
 -- each box of a reached manifest is fine with all texts
 boxes_fine : (reached : ℕ → Bool) (own : List ℕ) (rs : List Reading) (i : ℕ) (r : Reading) (texts : List (List ℕ))
     → AllByRecursion (IsFine reached own rs) texts → reached i ≡ true → slice_get rs i ≡ Some r
@@ -175,25 +151,6 @@ boxes_fine reached own rs i r [] h there is = each_box (BoxFine []) r.boxes (λ 
 boxes_fine reached own rs i r (text ∷ texts) h there is =
     add_text text texts r.boxes (signed_boxes reached rs i r text there is h.0.signed)
     (boxes_fine reached own rs i r texts h.1 there is)
-
--- the text that takes a label out of the child that a box names
-box_signed : (m l : List ℕ) (b : ReadBox) (texts : List (List ℕ)) → named_in b ≡ Some m → BoxFine texts b
-    → takes_out texts m l ≡ true → has_signature b ≡ true
-box_signed m l b [] n h t = absurd (false≢true t)
-box_signed m l b (text ∷ texts) n h t = ⊎_elim (λ here.
-    let uri = named_uri m l (uri_of text) here in
-    let names : passes_some (is_given (Some m)) (named_in b) ≡ true =
-    ap (passes_some (is_given (Some m))) n ∙ (bytes_eq-Decides m m).1 refl in
-    let lacks : (passes_some (is_given (Some m)) (named_in b) && not (has_signature b)) ≡ false =
-    sym (ap (λ u. names_unsigned u b) uri) ∙ h.0 in
-    not-false (has_signature b) (sym (ap (λ x. x && not (has_signature b)) names) ∙ lacks)) (λ later. box_signed m l b texts n h.1 later) (or_cases (names_assertion m l (uri_of text)) (takes_out texts m l) t)
-
--- each box names a signature where something is taken out of its child
-all_signed : (rs : List Reading) (i : ℕ) (texts : List (List ℕ)) (boxes : List ReadBox)
-    → AllByRecursion (BoxFine texts) boxes → AllByRecursion (SignsTaken texts rs i) boxes
-all_signed rs i texts [] h = tt
-all_signed rs i texts (b ∷ boxes) h =
-    ((λ m c label child is taken. box_signed (label_in c) label b texts (child_label rs i m b c child is) h.0 taken), all_signed rs i texts boxes h.1)
 
 -- ---- all of them
 

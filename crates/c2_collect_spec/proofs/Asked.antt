@@ -2,8 +2,9 @@
 use Rattle.c2_collect_spec.proofs.Contents.{content_one}
 use Rattle.c2_read_manifests.proofs.TheLaws.{one_reading_manifests, one_reading_store}
 use Rattle.c2_definition.proofs.TheLaws.{each_definition_is_read_one_way_one}
-use Rattle.c2_new_signature.proofs.TheLaws.{a_message_fills_its_reserve_or_needs_more, each_message_is_accepted_or_refused_for_one_test}
+use Rattle.c2_new_signature.proofs.TheLaws.{a_message_fills_its_reserve_or_needs_more, each_message_is_accepted_or_refused_for_one_test, one_message_read}
 use Rattle.c2_new_file_spec.proofs.FileLaws.{a_place_is_one, what_is_left_is_one}
+use Rattle.c2_lemmas.proofs.Stages.{one_stage}
 use Rattle.std.proofs.Common.{◌≡◌, ℕ, List, [], ◌++◌, refl, sym, ap, ◌∙◌, subst}
 use Rattle.std.specs.Prelude.{Result, Ok, Err}
 use Rattle.c2_base.specs.declared.values.Question.{Question}
@@ -16,11 +17,12 @@ use Rattle.c2_rules.specs.CheckList.{check_asks}
 use Rattle.c2_rules.specs.Opened.{IsOpened}
 use Rattle.c2_rules.specs.Readings.{AreReadings, Reading}
 use Rattle.c2_rules.specs.Validated.{CheckAsks, OpenedAsks}
+use Rattle.c2_definition.specs.DefinitionFile.{IsDefinition}
 use Rattle.c2_collect_spec.specs.Asked.{OneCollectAsks, OneCollectPlanAsks, SomeCollectAsks, SomeCollectPlanAsks}
 use Rattle.c2_collect_spec.specs.Order.{CollectRefusal}
-use Rattle.c2_collect_spec.specs.Outcomes.{After, AskedBehind, AsksThen, HasCheck, IsDefinitionStage, IsMediaStage, IsMessageStage, IsOpenedOnce, IsParentStage}
-use Rattle.c2_collect_spec.specs.Outcomes.{PairAsks, SomeCollectMade, SomeCollectPlan, Then}
-use Rattle.c2_collect_spec.proofs.OneOutcome.{OneLaws, one_definition, one_media, one_message, one_parent}
+use Rattle.c2_collect_spec.specs.Outcomes.{After, AskedBehind, AsksThen, HasCheck, IsDefinitionStage, IsMediaStage, IsMessageRead, IsMessageStage, IsOpenedOnce, IsParentStage}
+use Rattle.c2_collect_spec.specs.Outcomes.{PairAsks, SomeCollectMade, SomeCollectPlan, Then, definition_stage, media_stage, message_stage}
+use Rattle.c2_collect_spec.proofs.OneOutcome.{OneLaws, one_parent}
 use Rattle.c2_collect_spec.proofs.SomeOutcome.{answer_over, opened_as}
 use Rattle.c2_collect_spec.proofs.Stages.{IsOne}
 use Rattle.c2_cbor_spec.proofs.PlainBack.{one_item}
@@ -103,16 +105,20 @@ one_pair hash said media other what once ps qs h k =
 -- what a plan asks is one list
 pub one_plan_asks : OneCollectPlanAsks
 one_plan_asks hash said media definition other ps qs once again =
-    one_asked (IsMediaStage media) _ (one_media media once) (λ what.
-    one_asked (IsDefinitionStage definition) _ (one_definition definition) (λ d.
+    one_asked (IsMediaStage media) _ (one_stage media_stage (IsOpened media) once) (λ what.
+    one_asked (IsDefinitionStage definition) _
+    (one_stage definition_stage (IsDefinition definition) (each_definition_is_read_one_way_one definition)) (λ d.
     one_pair hash said media other what again)) ps qs
 
 -- what a build asks is one list
 pub one_asks : OneCollectAsks
 one_asks hash said media definition message other ps qs once again =
-    one_asked (IsMediaStage media) _ (one_media media once) (λ what.
-    one_asked (IsDefinitionStage definition) _ (one_definition definition) (λ d.
-    one_asked (IsMessageStage d.protected message) _ (one_message each_message_is_accepted_or_refused_for_one_test d.protected message) (λ m.
+    one_asked (IsMediaStage media) _ (one_stage media_stage (IsOpened media) once) (λ what.
+    one_asked (IsDefinitionStage definition) _
+    (one_stage definition_stage (IsDefinition definition) (each_definition_is_read_one_way_one definition)) (λ d.
+    one_asked (IsMessageStage d.protected message) _
+    (one_stage message_stage (IsMessageRead d.protected message)
+    (one_message_read each_message_is_accepted_or_refused_for_one_test d.protected message)) (λ m.
     one_pair hash said media other what again))) ps qs
 
 -- ---- a list

@@ -5,12 +5,11 @@ use Rattle.std.proofs.lemmas.Bool.{cases_eq, cases_lt, false≢true}
 use Rattle.std.proofs.lemmas.Option.{same_Some, slice_get_within}
 use Rattle.c2_spec.specs.C2pa.Manifest.{is_given}
 use Rattle.c2_spec.specs.Jumbf.Tree.{Tree, tree_bytes, tree_label}
-use Rattle.c2_chain_spec.proofs.Places.{member_of}
 use Rattle.c2_new_file_spec.specs.Written.{IsStoreBox}
 use Rattle.c2_collect_spec.specs.Sides.{ClashFirst, ClashesAt, IsClash, IsClashLabel}
 use Rattle.c2_collect_spec.proofs.Stores.{label_there}
 use Rattle.c2_lemmas.proofs.Bools.{and_not_true, both_true, not_true_is_false}
-use Rattle.c2_lemmas.proofs.Each.{contains_at}
+use Rattle.c2_lemmas.proofs.Each.{contains_at, member_of}
 use Rattle.c2_spec.proofs.GivenLabels.{given_is, is_given_back}
 
 -- ---- one

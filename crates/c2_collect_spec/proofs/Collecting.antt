@@ -20,7 +20,7 @@ use Rattle.c2_rules.proofs.ListLemmas.{contains_head}
 use Rattle.c2_chain_spec.specs.Joined.{JoinIs, has_manifest, is_carried, joined, picked}
 use Rattle.c2_chain_spec.specs.Rooted.{is_reached_from, last_roots}
 use Rattle.c2_chain_spec.proofs.Joining as joining
-use Rattle.c2_chain_spec.proofs.Places.{contains_left, contains_right, from_right, get_left, member_of, picked_of}
+use Rattle.c2_chain_spec.proofs.Places.{contains_left, contains_right, from_right, get_left, picked_of}
 use Rattle.c2_definition.specs.declared.types.Definition.{Definition}
 use Rattle.c2_definition.specs.declared.types.NewAssertion.{NewAssertion}
 use Rattle.c2_new_file_spec.specs.Manifests.{supers_in}
@@ -37,7 +37,7 @@ use Rattle.c2_collect_spec.specs.Stores.{IsRootedStore}
 use Rattle.c2_collect_spec.proofs.Contents.{apart_from, ingredients_ok, ingredients_zip, joined_store, roots_are, same_reached, two_roots}
 use Rattle.c2_collect_spec.proofs.Stores.{none_clashes, taken_less}
 use Rattle.c2_lemmas.proofs.Bools.{both_true}
-use Rattle.c2_lemmas.proofs.Each.{each_append}
+use Rattle.c2_lemmas.proofs.Each.{each_append, member_of}
 use Rattle.c2_lemmas.proofs.Options.{some_at}
 
 -- ---- the store

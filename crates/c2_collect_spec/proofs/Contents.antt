@@ -26,7 +26,7 @@ use Rattle.c2_new_file_spec.specs.FreshBoxes.{contents_of}
 use Rattle.c2_new_file_spec.specs.Manifests.{is_signature_box, manifest_of, superbox_of, supers_in, supers_of}
 use Rattle.c2_new_file_spec.specs.Store.{NamedManifest, NewIngredient}
 use Rattle.c2_new_file_spec.specs.Written.{AreIngredients}
-use Rattle.c2_new_file_spec.proofs.Conditions.{Holds, all_each}
+use Rattle.c2_rules.proofs.Conditions.{Holds, all_each}
 use Rattle.c2_new_file_spec.specs.Less.{IsReadLess, RedactedStoreIsRead}
 use Rattle.c2_new_file_spec.specs.Redacting.{redacted_boxes}
 use Rattle.c2_new_file_spec.proofs.Places.{LessAt, less_at, less_label, less_len}

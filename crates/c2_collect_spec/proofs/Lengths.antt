@@ -32,6 +32,7 @@ use Rattle.c2_collect_spec.specs.Lengths.{CollectedIsShort, CollectedStoresFit}
 use Rattle.c2_collect_spec.specs.Order.{IsMediaFile, IsOtherFile, MediaFile, OtherFile}
 use Rattle.c2_collect_spec.specs.Sides.{boxes_then, is_carried_box, joined_boxes}
 use Rattle.c2_collect_spec.proofs.Contents.{ingredients_ok}
+use Rattle.c2_rules.proofs.OpenedStore.{same_here}
 
 -- ---- fewer bytes
 
@@ -228,10 +229,6 @@ inside_less (super wide d us) =
       boxed_more JUMB wide (description_bytes d ++ trees_bytes us),
     )
 
--- stores that are found are one tree
-same_tree : (a n b m : ℕ) (t u : Tree) → ◌≡◌ {A = Opening Tree} (located.here a n t) (located.here b m u) → t ≡ u
-same_tree a n b m t u e = cc (e)
-
 -- the boxes of a file that is opened with a store
 opened_small : (file : List ℕ) (start len : ℕ) (t : Tree) → IsOpened file (located.here start len t)
     → length (trees_bytes (boxes_in t)) ≤ MAX_STORE_LEN
@@ -243,7 +240,7 @@ opened_small file start len t h = by_place h.0 h.1 h.2
     by_tree at n store small (located.refused reason number) g e = absurd (cc (e))
     by_tree at n store small located.absent g e = absurd g
     by_tree at n store small (located.here b m u) g e =
-        let same : t ≡ u = same_tree start len b m t u e.1 in
+        let same : t ≡ u = same_here start len b m t u e.1 in
         omega
         (arith, inside_less u, ap length g.0.whole, ap (λ (x : Tree). length (trees_bytes (boxes_in x))) same, small)
 

@@ -2,6 +2,8 @@
 use Rattle.c2_collect_spec.proofs.Collecting.{all_approved}
 use Rattle.c2_collect_spec.proofs.Whole.{each_meets}
 use Rattle.c2_definition.proofs.TheLaws.{definitions_are_well_formed}
+use Rattle.c2_new_signature.proofs.TheLaws.{accepted_messages_can_be_padded}
+use Rattle.c2_lemmas.proofs.Stages.{stage_value}
 use Rattle.c2_new_file_spec.proofs.FileLaws.{a_place_is_one}
 use Rattle.c2_new_content_spec.proofs.OverLaws.{a_valid_store_is_approved}
 use Rattle.c2_chain_spec.proofs.ChainLaws.{a_store_is_rooted_at_its_last_manifest}
@@ -36,13 +38,13 @@ use Rattle.c2_collect_spec.specs.Collected.{AreApproved, CollectsFrom, IsOfEithe
 use Rattle.c2_collect_spec.specs.Files.{collected_signed}
 use Rattle.c2_collect_spec.specs.Made.{HasTextsIn, IsAskedBy, MadeCollectedMeets, embedded_range}
 use Rattle.c2_collect_spec.specs.Order.{CanCollectPair, CollectRefusal, FilePair, IsCollectedFile, IsMediaFile, IsOtherFile, IsValidAnswer, MediaFile, OtherFile}
-use Rattle.c2_collect_spec.specs.Order.{pair_readings, reserve_refusals}
-use Rattle.c2_collect_spec.specs.Outcomes.{CollectGround, IsCollectMade, IsCollectPlanned, IsDefinitionStage, IsGroundStage, IsMadeOn, IsMadeOver, IsMediaStage, IsMessageStage, IsNewFile}
+use Rattle.c2_collect_spec.specs.Order.{bad_signature, pair_readings, reserve_refusals}
+use Rattle.c2_collect_spec.specs.Outcomes.{CollectGround, IsCollectMade, IsCollectPlanned, IsDefinitionStage, IsGroundStage, IsMadeOn, IsMadeOver, IsMediaStage, IsMessageRead, IsMessageStage, IsNewFile}
 use Rattle.c2_collect_spec.specs.Outcomes.{IsPairStage, IsPlannedOn, IsPlannedOver, IsPutIn, NewFile, ground_refusals, ground_signed, new_file}
 use Rattle.c2_collect_spec.specs.Stores.{IsAcceptedFile}
 use Rattle.c2_collect_spec.specs.Whole.{MeetsCollected, pair_questions}
 use Rattle.c2_collect_spec.proofs.Order.{both_none, file_fits, none_failing, pair_collects}
-use Rattle.c2_collect_spec.proofs.SomeOutcome.{IsPairPassed, defined_of, free_place, opened_as, pair_passed, read_taken}
+use Rattle.c2_collect_spec.proofs.SomeOutcome.{IsPairPassed, defined_of, free_place, opened_as, pair_passed}
 use Rattle.c2_collect_spec.proofs.Stages.{passed, then_next, unless_passed, unless_passes}
 
 -- ---- what is known
@@ -220,14 +222,14 @@ built_of hash said media definition message other b texts k p =
     let base : List ℕ = k.pair.media.base in
     let x : Content = k.content in
     let defined = defined_of definition d k.is_d in
-    let taken = read_taken d.protected message k.parts k.is_parts in
+    let taken = stage_value bad_signature (IsMessageRead d.protected message) k.parts k.is_parts in
     let collects : CanCollectPair hash d k.pair =
     pair_collects a_store_is_rooted_at_its_last_manifest hash said d media other k.pair p.is_pair p.none in
     let free = free_place hash said media k.what k.pair.media (opened_as media k.what k.is_media) p.is_media in
     let fit = file_fits base x d.reserve (length (pair_readings k.pair) + 1) k.place k.made.unrefused in
     let count = fit.few in
     let built : IsCollectedFile hash d k.pair k.parts k.place b.file = record {
-      own = taken.accepted.1.1.1.0 k.parts taken.spelled;
+      own = (accepted_messages_can_be_padded d.protected message k.parts taken.0 taken.1).own;
       collects = collects;
       content = k.content;
       collected = record {
@@ -289,7 +291,7 @@ made_meets hash said media definition message other b digests texts h = record {
   new = k.d;
   defined = defined_of definition k.d k.is_d;
   parts = k.parts;
-  spelled = (read_taken k.d.protected message k.parts k.is_parts).spelled;
+  spelled = (stage_value bad_signature (IsMessageRead k.d.protected message) k.parts k.is_parts).1;
   pair = k.pair;
   read = p.is_pair;
   place = k.place;

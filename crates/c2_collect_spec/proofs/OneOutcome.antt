@@ -1,15 +1,16 @@
 -- Two files that are opened as one thing each come to one plan and to one new file.
-use Rattle.c2_read_manifests.proofs.TheLaws.{one_reading_store}
+use Rattle.c2_read_manifests.proofs.TheLaws.{one_reading_file}
 use Rattle.c2_definition.proofs.TheLaws.{each_definition_is_read_one_way_one}
-use Rattle.std.proofs.Common.{◌≡◌, ◌⊎◌, inl, inr, ℕ, List, ◌++◌, length, Option, sym, ap, ◌∙◌, subst}
-use Rattle.std.specs.Prelude.{Result, Ok, Err}
+use Rattle.c2_new_signature.proofs.TheLaws.{one_message_read}
+use Rattle.c2_lemmas.proofs.Stages.{one_stage}
+use Rattle.std.proofs.Common.{◌≡◌, ℕ, List, ◌++◌, length, Option, sym, ap, ◌∙◌, subst}
+use Rattle.std.specs.Prelude.{Result, Ok}
 use Rattle.std.proofs.lemmas.Option.{same_Some}
 use Rattle.c2_base.specs.declared.values.Question.{Question}
-use Rattle.c2_spec.specs.C2pa.Manifest.{Manifest, manifests_of}
-use Rattle.c2_spec.specs.C2pa.Sign1.{SignParts, SpellsMessage, message_list}
-use Rattle.c2_spec.specs.Cbor.Item.{Item, tag}
+use Rattle.c2_spec.specs.C2pa.Manifest.{Manifest}
+use Rattle.c2_spec.specs.C2pa.Sign1.{SignParts}
+use Rattle.c2_spec.specs.Cbor.Item.{Item}
 use Rattle.c2_spec.specs.Cbor.Spelling.{Spells}
-use Rattle.c2_spec.specs.Container.{Container}
 use Rattle.c2_spec.specs.Jumbf.Tree.{Tree, Trees}
 use Rattle.c2_spec.specs.Located.{Opening, absent, here, refused}
 use Rattle.c2_spec.specs.declared.digest.Alg.{Alg}
@@ -17,9 +18,9 @@ use Rattle.c2_spec.specs.declared.panel.Verdict.{Verdict}
 use Rattle.c2_rules.specs.Binding.{Media}
 use Rattle.c2_rules.specs.Chains.{is_reached}
 use Rattle.c2_rules.specs.CheckList.{IsStoreReading, StoreReading, check_list, store_answer}
+use Rattle.c2_rules.specs.Opened.{IsOpened}
 use Rattle.c2_rules.specs.Readings.{Reading}
 use Rattle.c2_rules.specs.Tests.{first_failing}
-use Rattle.c2_rules.specs.Validated.{IsFileReading}
 use Rattle.c2_rules.specs.declared.answer.Answer.{Answer}
 use Rattle.c2_rules.specs.declared.answer.Failing.{Failing}
 use Rattle.c2_definition.specs.DefinitionFile.{IsDefinition}
@@ -27,7 +28,6 @@ use Rattle.c2_definition.specs.declared.types.Definition.{Definition}
 use Rattle.c2_definition.specs.declared.types.DefinitionField.{DefinitionField}
 use Rattle.c2_new_signature.specs.Message.{RefusedForOne}
 use Rattle.c2_new_signature.specs.Signed.{FillsOrNeedsMore}
-use Rattle.c2_new_signature.specs.declared.error.SignaturePart.{SignaturePart}
 use Rattle.c2_new_file_spec.specs.Manifests.{supers_in}
 use Rattle.c2_new_file_spec.specs.Store.{Content}
 use Rattle.c2_new_file_spec.specs.Redacting.{boxes_in}
@@ -40,9 +40,6 @@ use Rattle.c2_collect_spec.specs.Outcomes.{IsOtherStage, IsPutIn, IsPairStage, I
 use Rattle.c2_collect_spec.specs.Outcomes.{ground_refusals, media_stage, message_stage, new_file, pair_of}
 use Rattle.c2_collect_spec.proofs.Clashes.{one_clash}
 use Rattle.c2_collect_spec.proofs.Stages.{IsOne, one_then, one_unless, one_value}
-use Rattle.c2_cbor_spec.proofs.PlainBack.{one_item}
-use Rattle.c2_rules.proofs.OneMedia.{media_once}
-use Rattle.c2_spec.proofs.OneMessage.{same_parts}
 
 -- ---- what laws of other crates say
 
@@ -71,65 +68,6 @@ pub record OneLaws : Type 0 where
   pub place : OnePlace
   pub content : CollectedContentIsOne
 
--- ---- a store is read in one way
-
--- media of these
-abbrev media_of : List ℕ → Container → Media
-media_of file c = record { bytes = file; container = c }
-
--- the store of a file is read in one way
-pub one_store_reading : (file : List ℕ) (t : Tree) (a b : StoreReading) → IsFileReading file t a
-    → IsFileReading file t b → a ≡ b
-one_store_reading file t a b h k =
-    one_reading_store h.media (manifests_of t) a b h.reads
-    (subst (λ (m : Media). IsStoreReading m (manifests_of t) b) (media_once file k.media h.media k.is_media h.is_media) k.reads)
-
--- ---- a message has one list of parts
-
--- parts of a message, written short
-abbrev parts : List ℕ → Item → List ℕ → SignParts
-parts protected unprotected signature =
-    record { protected = protected; unprotected = unprotected; signature = signature }
-
--- an item is the message of one list of parts, with its tag or without
-same_form : (v : Item) (p q : SignParts) → (v ≡ message_list p) ⊎ (v ≡ tag 18 (message_list p))
-    → (v ≡ message_list q) ⊎ (v ≡ tag 18 (message_list q)) → p ≡ q
-same_form v p q (inl a) (inl b) = same_parts p q (sym a ∙ b)
-same_form v p q (inl a) (inr b) = absurd (let bad = sym a ∙ b in cc (bad))
-same_form v p q (inr a) (inl b) = absurd (let bad = sym a ∙ b in cc (bad))
-same_form v p q (inr a) (inr b) = same_parts p q (let both = sym a ∙ b in cc (both))
-
--- bytes are one message
-pub same_message : (s : List ℕ) (p q : SignParts) → SpellsMessage s p → SpellsMessage s q → p ≡ q
-same_message s p q a b =
-    let item : b.message ≡ a.message = one_item b.message a.message s b.spelled a.spelled in
-    same_form a.message p q a.is.form
-    (subst (λ (v : Item). (v ≡ message_list q) ⊎ (v ≡ tag 18 (message_list q))) item b.is.form)
-
--- ---- the inputs
-
--- a media file is one thing to a build
-pub one_media : (media : List ℕ) → IsOpenedOnce media → IsOne (IsMediaStage media)
-one_media media one r s h k = h.2 ∙ ap media_stage (one h.0 k.0 h.1 k.1) ∙ sym k.2
-
--- a definition file has one outcome in a build
-pub one_definition : (file : List ℕ) → IsOne (IsDefinitionStage file)
-one_definition file r s h k =
-    h.2 ∙ ap definition_stage (each_definition_is_read_one_way_one file h.0 k.0 h.1 k.1) ∙ sym k.2
-
--- a message is read as one thing
-one_read : RefusedForOne → (protected bytes : List ℕ) (m n : Result SignParts SignaturePart)
-    → IsMessageRead protected bytes m → IsMessageRead protected bytes n → m ≡ n
-one_read law protected bytes (Ok p) (Ok q) h k = ap (λ (x : SignParts). Ok x) (same_message bytes p q h.1 k.1)
-one_read law protected bytes (Ok p) (Err t) h k = absurd (law.none protected bytes t k h.0)
-one_read law protected bytes (Err t) (Ok q) h k = absurd (law.none protected bytes t h k.0)
-one_read law protected bytes (Err t) (Err u) h k = ap (λ (x : SignaturePart). Err x) (law.one protected bytes t u h k)
-
--- a message has one outcome in a build
-pub one_message : RefusedForOne → (protected bytes : List ℕ) → IsOne (IsMessageStage protected bytes)
-one_message law protected bytes r s h k =
-    h.2 ∙ ap message_stage (one_read law protected bytes h.0 k.0 h.1 k.1) ∙ sym k.2
-
 -- ---- both files
 
 -- a media file of these
@@ -148,7 +86,7 @@ pub one_media_file : OneLaws
 one_media_file l hash said file (refused reason number) m n h k = absurd h
 one_media_file l hash said file absent m n h k = h ∙ sym k
 one_media_file l hash said file (here start len t) m n h k =
-    let reading : h.reading ≡ k.reading = one_store_reading file t h.reading k.reading h.reads k.reads in
+    let reading : h.reading ≡ k.reading = one_reading_file file t h.reading k.reading h.reads k.reads in
     let base : m.base ≡ n.base = l.left file start len m.base n.base h.left k.left in
     let boxes : m.boxes ≡ n.boxes = h.boxes ∙ sym k.boxes in
     let readings : m.readings ≡ n.readings =
@@ -172,7 +110,7 @@ pub one_other_file : OneLaws
 one_other_file l hash said file (refused reason number) o p h k = h ∙ sym k
 one_other_file l hash said file absent o p h k = h ∙ sym k
 one_other_file l hash said file (here start len t) o p h k =
-    let reading : h.reading ≡ k.reading = one_store_reading file t h.reading k.reading h.reads k.reads in
+    let reading : h.reading ≡ k.reading = one_reading_file file t h.reading k.reading h.reads k.reads in
     let answer : o.answer ≡ p.answer =
     h.answer ∙ ap (store_answer hash said (length file) start len) reading ∙ sym k.answer in
     let boxes : o.boxes ≡ p.boxes = h.boxes ∙ sym k.boxes in
@@ -258,8 +196,9 @@ one_made fills hash d m g r s h k =
 -- a plan is one
 pub one_plan : OneLaws → OneCollectPlan
 one_plan l hash said media definition other a b once again =
-    one_then (IsMediaStage media) _ (one_media media once) (λ what.
-    one_then (IsDefinitionStage definition) _ (one_definition definition) (λ d.
+    one_then (IsMediaStage media) _ (one_stage media_stage (IsOpened media) once) (λ what.
+    one_then (IsDefinitionStage definition) _
+    (one_stage definition_stage (IsDefinition definition) (each_definition_is_read_one_way_one definition)) (λ d.
     one_then (IsPairStage hash said media other what d) _ (one_pair l hash said media other what d again) (λ p.
     one_then (IsGroundStage d p) (IsPlannedOn hash d) (one_ground l d p) (λ g.
     one_unless (ground_refusals d g) (λ r. r ≡ Ok (ground_signed hash d g)) (one_value (ground_signed hash d g)))))) a b
@@ -267,9 +206,11 @@ one_plan l hash said media definition other a b once again =
 -- a new file is one
 pub one_file : OneLaws → OneCollectMade
 one_file l hash said media definition message other a b once again =
-    one_then (IsMediaStage media) _ (one_media media once) (λ what.
-    one_then (IsDefinitionStage definition) _ (one_definition definition) (λ d.
-    one_then (IsMessageStage d.protected message) _ (one_message l.refused d.protected message) (λ m.
+    one_then (IsMediaStage media) _ (one_stage media_stage (IsOpened media) once) (λ what.
+    one_then (IsDefinitionStage definition) _
+    (one_stage definition_stage (IsDefinition definition) (each_definition_is_read_one_way_one definition)) (λ d.
+    one_then (IsMessageStage d.protected message) _
+    (one_stage message_stage (IsMessageRead d.protected message) (one_message_read l.refused d.protected message)) (λ m.
     one_then (IsPairStage hash said media other what d) _ (one_pair l hash said media other what d again) (λ p.
     one_then (IsGroundStage d p) (IsMadeOn hash d m) (one_ground l d p) (λ g.
     one_unless (ground_refusals d g ++ reserve_refusals d m) (IsNewFile hash d m g) (one_made l.fills hash d m g)))))) a b

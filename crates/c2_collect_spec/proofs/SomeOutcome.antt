@@ -2,15 +2,17 @@
 use Rattle.c2_new_file_spec.proofs.ParentLaws.{a_redacted_store_is_read_less}
 use Rattle.c2_collect_spec.proofs.Contents.{some_collects}
 use Rattle.c2_definition.proofs.TheLaws.{definitions_are_well_formed, each_definition_is_read_one_way_some}
-use Rattle.c2_new_signature.proofs.TheLaws.{a_message_fills_its_reserve_or_needs_more, each_message_is_accepted_or_refused_for_one_test}
+use Rattle.c2_new_signature.proofs.TheLaws.{a_message_fills_its_reserve_or_needs_more, accepted_paddable, each_message_is_accepted_or_refused_for_one_test, some_message_read}
 use Rattle.c2_new_file_spec.proofs.FileLaws.{each_media_has_a_place_fresh, each_media_has_a_place_left, each_media_has_a_place_place}
 use Rattle.c2_chain_spec.proofs.ChainLaws.{a_store_is_rooted_at_its_last_manifest}
-use Rattle.std.proofs.Common.{◌≡◌, ◌⊎◌, inl, inr, ℕ, ◌+◌, ◌^◌, ◌<◌, List, [], ◌++◌, length, All, Option, Some, None, refl, sym, subst}
-use Rattle.std.specs.Prelude.{Result, Ok, Err, option_map}
-use Rattle.std.specs.Option.{option_to_list}
+use Rattle.c2_lemmas.proofs.Options.{listed_some}
+use Rattle.c2_lemmas.proofs.Stages.{some_stage, stage_value}
+use Rattle.c2_spec.proofs.Openings.{opening_value}
+use Rattle.std.proofs.Common.{◌≡◌, ◌⊎◌, inl, inr, ℕ, ◌+◌, List, [], ◌++◌, length, Option, None, refl, sym, subst}
+use Rattle.std.specs.Prelude.{Result, Ok}
 use Rattle.c2_base.specs.declared.values.Question.{Question}
 use Rattle.c2_spec.specs.C2pa.Message.{bare_bytes}
-use Rattle.c2_spec.specs.C2pa.Sign1.{SignParts, SpellsMessage}
+use Rattle.c2_spec.specs.C2pa.Sign1.{SignParts}
 use Rattle.c2_spec.specs.Jumbf.Tree as jumbf
 use Rattle.c2_spec.specs.Jumbf.Tree.{Tree, tree_bytes}
 use Rattle.c2_spec.specs.Located.{Opening, absent, here, refused}
@@ -25,18 +27,15 @@ use Rattle.c2_rules.specs.Validated.{IsOpenedAnswer}
 use Rattle.c2_rules.specs.declared.answer.Answer.TheVariants as answers
 use Rattle.c2_definition.specs.DefinitionFile.{IsDefinition, IsWellFormed}
 use Rattle.c2_definition.specs.declared.types.Definition.{Definition}
-use Rattle.c2_definition.specs.declared.types.DefinitionField.{DefinitionField}
-use Rattle.c2_new_signature.specs.Message.{IsAccepted, IsRefused, RefusedForOne}
 use Rattle.c2_new_signature.specs.Refusals.{reserve_needed}
-use Rattle.c2_new_signature.specs.Signed.{FillsOrNeedsMore, IsPaddable, IsSigned, NeedsMore}
-use Rattle.c2_new_signature.specs.declared.error.SignaturePart.{SignaturePart}
+use Rattle.c2_new_signature.specs.Signed.{FillsOrNeedsMore, IsSigned, NeedsMore}
 use Rattle.c2_new_file_spec.specs.Manifests.{supers_in}
 use Rattle.c2_new_file_spec.specs.Store.{new_alg}
 use Rattle.c2_new_file_spec.specs.Redacting.{boxes_in}
 use Rattle.c2_new_file_spec.specs.Laws.{SomeLeft}
 use Rattle.c2_new_file_spec.specs.Places.{HasRoom, IsFreePlace, Place, place_store}
 use Rattle.c2_collect_spec.specs.Order.{CollectRefusal, FilePair, IsFilePair, IsMediaFile, IsOtherFile, IsValidAnswer, MediaFile, OtherFile}
-use Rattle.c2_collect_spec.specs.Order.{joined_refusals, other_refusals, pair_readings, pair_refusals, parent_refusals, reserve_refusals, reserve_too_small}
+use Rattle.c2_collect_spec.specs.Order.{bad_definition, bad_signature, joined_refusals, media_refused, other_refusals, pair_readings, pair_refusals, parent_refusals, reserve_refusals, reserve_too_small}
 use Rattle.c2_collect_spec.specs.Outcomes.{CollectGround, HasCheck, IsDefinitionStage, IsGroundStage, IsJoinedStage, IsMadeOn, IsMadeOver, IsMediaStage, IsMessageRead, IsMessageStage}
 use Rattle.c2_collect_spec.specs.Outcomes.{IsNewFile, IsOtherStage, IsPairStage, IsParentStage, IsPlannedOn, IsPlannedOver, SomeCollectMade, SomeCollectPlan, ground_signed}
 use Rattle.c2_collect_spec.specs.Outcomes.{definition_stage, ground_refusals, media_stage, message_stage, new_file, pair_of}
@@ -63,12 +62,7 @@ same_value v w e = cc (e)
 
 -- a media file that passed is opened so
 pub opened_as : (media : List ℕ) (what : Opening Tree) → IsMediaStage media (Ok what) → IsOpened media what
-opened_as media what m = by m.0 m.1 m.2
-  where
-    by : (w : Opening Tree) → IsOpened media w → Ok what ≡ media_stage w → IsOpened media what
-    by (refused reason number) o e = absurd (cc (e))
-    by absent o e = subst (IsOpened media) (same_value what absent e) o
-    by (here start len t) o e = subst (IsOpened media) (same_value what (here start len t) e) o
+opened_as media what m = opening_value media_refused (IsOpened media) what m
 
 -- a refused file didn't pass
 refused_not : (media : List ℕ) (reason : Reason) (number : ℕ) {P : Type 0}
@@ -240,71 +234,9 @@ pair_passed hash said media other what d p is_media h =
 
 -- ---- the definition and the message
 
--- each definition file comes to something
-some_definition : (file : List ℕ) → Something (IsDefinitionStage file)
-some_definition file = let d = each_definition_is_read_one_way_some file in (definition_stage d.0, (d.0, d.1, refl))
-
 -- a definition that passed is that of its file
 pub defined_of : (file : List ℕ) (d : Definition) → IsDefinitionStage file (Ok d) → IsDefinition file (Ok d)
-defined_of file d h = by h.0 h.1 h.2
-  where
-    by : (r : Result Definition DefinitionField) → IsDefinition file r → Ok d ≡ definition_stage r
-        → IsDefinition file (Ok d)
-    by (Ok x) is e = let same : x ≡ d = cc (e) in subst (λ (y : Definition). IsDefinition file (Ok y)) same is
-    by (Err f) is e = absurd (cc (e))
-
--- each message comes to something
-some_message : RefusedForOne → (protected bytes : List ℕ) → All (λ b. b < 2 ^ 8) bytes
-    → Something (IsMessageStage protected bytes)
-some_message law protected bytes are = by (law.either protected bytes are)
-  where
-    by : IsAccepted protected bytes ⊎ ((test : SignaturePart) × IsRefused protected bytes test)
-        → Something (IsMessageStage protected bytes)
-    by (inl a) = let form = a.1.0 in (Ok form.0, (Ok form.0, (a, form.1), refl))
-    by (inr r) = (message_stage (Err r.0), (Err r.0, r.1, refl))
-
--- What was read of a message that is accepted.
-pub record IsTaken (protected bytes : List ℕ) (p : SignParts) : Type 0 where
-  pub accepted : IsAccepted protected bytes
-  pub spelled : SpellsMessage bytes p
-
--- a message that passed was accepted
-pub read_taken : (protected bytes : List ℕ) (p : SignParts) → IsMessageStage protected bytes (Ok p)
-    → IsTaken protected bytes p
-read_taken protected bytes p h = by h.0 h.1 h.2
-  where
-    by : (m : Result SignParts SignaturePart) → IsMessageRead protected bytes m → Ok p ≡ message_stage m
-        → IsTaken protected bytes p
-    by (Ok q) is e = let same : q ≡ p = cc (e) in record { accepted = is.0; spelled = subst (SpellsMessage bytes) same is.1 }
-    by (Err t) is e = absurd (cc (e))
-
--- a message that passed can be padded to what a definition reserves
-paddable : (protected bytes : List ℕ) (p : SignParts) (d : Definition) → IsTaken protected bytes p → IsWellFormed d
-    → IsPaddable bytes p d.reserve
-paddable protected bytes p d t formed =
-    let tests = t.accepted.1.1 in
-    let map = t.spelled.is.header in
-    record {
-      spelled = t.spelled;
-      small = t.accepted.0;
-      entries = map.0;
-      can = record {
-        map = map.1;
-        plain = tests.0 p t.spelled;
-        few = tests.1.1.0 p t.spelled map.0 map.1;
-        no_pad = (tests.1.1.1.0 p t.spelled map.0 map.1).0;
-        no_pad2 = (tests.1.1.1.0 p t.spelled map.0 map.1).1;
-      };
-      most = formed.most;
-    }
-
--- where nothing is refused of what is reserved, a message doesn't need more
-no_more : (d : Definition) (p : SignParts) → reserve_refusals d p ≡ [] → NeedsMore p d.reserve → ⊥
-no_more d p none needs = by (reserve_needed d.reserve (length (bare_bytes p))) needs.1 none
-  where
-    by : (o : Option ℕ) → o ≡ Some needs.0 → option_to_list (option_map reserve_too_small o) ≡ [] → ⊥
-    by None e k = cc (e)
-    by (Some n) e k = cc (k)
+defined_of file d h = stage_value bad_definition (IsDefinition file) d h
 
 -- ---- what is built
 
@@ -321,12 +253,13 @@ some_ground hash said media other what d p is_media h =
 -- a file is built where nothing is refused
 some_made : FillsOrNeedsMore
     → (hash : Alg → List ℕ → List ℕ) (bytes : List ℕ) (d : Definition) (m : SignParts) (g : CollectGround)
-    → IsTaken d.protected bytes m → IsWellFormed d
+    → IsMessageRead d.protected bytes (Ok m) → IsWellFormed d
     → ground_refusals d g ++ reserve_refusals d m ≡ [] → Something (IsNewFile hash d m g)
 some_made fills hash bytes d m g taken formed none =
     let both = both_none (ground_refusals d g) (reserve_refusals d m) none in
     let fit = file_fits g.pair.media.base g.content d.reserve (length (pair_readings g.pair) + 1) g.place both.0 in
-    by both.1 fit.room (fills.either bytes m d.reserve (paddable d.protected bytes m d taken formed))
+    by both.1 fit.room
+    (fills.either bytes m d.reserve (accepted_paddable d.protected bytes m d.reserve taken.0 taken.1 formed.most))
   where
     by : reserve_refusals d m ≡ [] → HasRoom g.place
         → ((message : List ℕ) × IsSigned m d.reserve message) ⊎ NeedsMore m d.reserve → Something (IsNewFile hash d m g)
@@ -335,7 +268,8 @@ some_made fills hash bytes d m g taken formed none =
         some_bytes g.place room
         (tree_bytes (place_store (hash (new_alg d)) g.content s.0 g.pair.media.base g.place)) in
         (Ok (new_file g (length s.0) put.0), (s.0, s.1, (put.0, put.1, refl)))
-    by pass room (inr n) = absurd (no_more d m pass n)
+    by pass room (inr n) =
+        absurd (listed_some reserve_too_small (reserve_needed d.reserve (length (bare_bytes m))) n.0 n.1 pass)
 
 -- ---- both calls
 
@@ -343,7 +277,8 @@ some_made fills hash bytes d m g taken formed none =
 pub some_plan : SomeCollectPlan
 some_plan hash said media definition other own theirs =
     some_then (IsMediaStage media) _ (some_media hash said media own) (λ what is_media.
-    some_then (IsDefinitionStage definition) _ (some_definition definition) (λ d is_d.
+    some_then (IsDefinitionStage definition) _
+    (some_stage definition_stage (IsDefinition definition) (each_definition_is_read_one_way_some definition)) (λ d is_d.
     some_then (IsPairStage hash said media other what d) (IsPlannedOver hash d) (some_pair hash said media other what d own theirs is_media) (λ p is_p.
     some_then (IsGroundStage d p) (IsPlannedOn hash d) (some_ground hash said media other what d p is_media (pair_passed hash said media other what d p is_media is_p)) (λ g is_g.
     some_unless (ground_refusals d g) (λ r. r ≡ Ok (ground_signed hash d g)) (λ none. (Ok (ground_signed hash d g), refl))))))
@@ -352,9 +287,14 @@ some_plan hash said media definition other own theirs =
 pub some_file : SomeCollectMade
 some_file hash said media definition message other own theirs are =
     some_then (IsMediaStage media) _ (some_media hash said media own) (λ what is_media.
-    some_then (IsDefinitionStage definition) _ (some_definition definition) (λ d is_d.
-    some_then (IsMessageStage d.protected message) _ (some_message each_message_is_accepted_or_refused_for_one_test d.protected message are) (λ m is_m.
+    some_then (IsDefinitionStage definition) _
+    (some_stage definition_stage (IsDefinition definition) (each_definition_is_read_one_way_some definition)) (λ d is_d.
+    some_then (IsMessageStage d.protected message) _
+    (some_stage message_stage (IsMessageRead d.protected message)
+    (some_message_read each_message_is_accepted_or_refused_for_one_test d.protected message are)) (λ m is_m.
     some_then (IsPairStage hash said media other what d) (IsMadeOver hash d m) (some_pair hash said media other what d own theirs is_media) (λ p is_p.
     some_then (IsGroundStage d p) (IsMadeOn hash d m) (some_ground hash said media other what d p is_media (pair_passed hash said media other what d p is_media is_p)) (λ g is_g.
     some_unless (ground_refusals d g ++ reserve_refusals d m) (IsNewFile hash d m g)
-    (some_made a_message_fills_its_reserve_or_needs_more hash message d m g (read_taken d.protected message m is_m) (definitions_are_well_formed definition d (defined_of definition d is_d))))))))
+    (some_made a_message_fills_its_reserve_or_needs_more hash message d m g
+    (stage_value bad_signature (IsMessageRead d.protected message) m is_m)
+    (definitions_are_well_formed definition d (defined_of definition d is_d))))))))

@@ -8,15 +8,12 @@ use Rattle.std.specs.List.{AllByRecursion, AllZip}
 use Rattle.std.proofs.lemmas.Slice.Eq.{bytes_eq-Decides}
 use Rattle.c2_base.specs.declared.limits.TheConstants.{MAX_MANIFESTS}
 use Rattle.c2_base.specs.declared.values.Question.{Question}
-use Rattle.c2_spec.specs.C2pa.Manifest.{Manifest, manifests_of, store_refusal}
+use Rattle.c2_spec.specs.C2pa.Manifest.{Manifest, manifests_of}
 use Rattle.c2_spec.specs.Jumbf.Tree.{AreDistinctLabels, IsLegalTree, IsNewLabel, Tree, Trees, leaf, super, tree_bytes, tree_label}
-use Rattle.c2_spec.specs.Located as located
-use Rattle.c2_spec.specs.Located.{Located, Opening}
 use Rattle.c2_spec.specs.declared.digest.Alg.{Alg}
 use Rattle.c2_spec.specs.declared.panel.Verdict.{Verdict}
 use Rattle.c2_rules.specs.Chains.{is_reached}
 use Rattle.c2_rules.specs.CheckList.{StoreReading, active_in, active_tests, chain_tests, check_list, judged_tests, last_tests}
-use Rattle.c2_rules.specs.Opened.{IsBoxTree, IsManifestStore, IsManifestTree, IsOpened, Opens}
 use Rattle.c2_rules.specs.Readings.{AreReadings, IsReading, Reading}
 use Rattle.c2_rules.specs.Rules.{unjudged_tests}
 use Rattle.c2_rules.specs.Tests.{AllHold}
@@ -26,7 +23,7 @@ use Rattle.c2_definition.specs.declared.types.Definition.{Definition}
 use Rattle.c2_new_file_spec.specs.Manifests.{is_super, manifest_of, supers_in, supers_of}
 use Rattle.c2_new_file_spec.specs.Written.{IsStoreBox}
 use Rattle.c2_new_file_spec.proofs.ByIndex.{same_manifests}
-use Rattle.c2_new_file_spec.proofs.Conditions.{Holds, all_each, all_hold}
+use Rattle.c2_rules.proofs.Conditions.{Holds, all_each, all_hold}
 use Rattle.c2_new_file_spec.specs.Less.{IsReadLess, RedactedStoreIsRead}
 use Rattle.c2_new_file_spec.specs.Redacting.{boxes_in, redacted_boxes}
 use Rattle.c2_new_file_spec.proofs.Places.{less_len}
@@ -41,6 +38,7 @@ use Rattle.c2_lemmas.proofs.Bools.{both_true, not_true_is_false}
 use Rattle.c2_lemmas.proofs.Each.{each_append, each_back, each_front, zip_append}
 use Rattle.c2_new_file_spec.proofs.Valid.{boxes_kinds, unjudged_all}
 use Rattle.c2_spec.proofs.JumbfOneTree.{spells_once}
+use Rattle.c2_rules.proofs.OpenedStore.{IsOpenedStore, opened_store}
 
 -- ---- what the laws of other crates say
 
@@ -198,40 +196,15 @@ none_rooted hash = record {
 
 -- ---- an accepted file
 
--- the store that a file is opened as
-record IsFound (t : Tree) : Type 0 where
-  legal : IsLegalTree 1 t
-  store : store_refusal t ≡ None
-
--- two stores that are found are one tree
-here_tree : (a n b m : ℕ) (t u : Tree) → ◌≡◌ {A = Opening Tree} (located.here a n t) (located.here b m u) → t ≡ u
-here_tree a n b m t u e = cc (e)
-
--- the box tree that a file is opened with is legal and a store
-found : (file : List ℕ) (start len : ℕ) (t : Tree) → IsOpened file (located.here start len t) → IsFound t
-found file start len t h = by_place h.0 h.2
-  where
-    by_tree : (at n : ℕ) (store : List ℕ) (what : Opening Tree) → IsBoxTree at n store what
-        → Opens IsManifestTree what (located.here start len t) → IsFound t
-    by_tree at n store (located.refused reason number) g e = absurd (cc (e))
-    by_tree at n store located.absent g e = absurd g
-    by_tree at n store (located.here b m u) g e =
-        let same : t ≡ u = here_tree start len b m t u e.1 in
-        record { legal = subst (IsLegalTree 1) (sym same) g.0.legal; store = ap store_refusal same ∙ e.0 }
-
-    by_place : (l : Located) → Opens IsManifestStore l (located.here start len t) → IsFound t
-    by_place (located.refused reason number) e = absurd (cc (e))
-    by_place located.absent e = absurd (cc (e))
-    by_place (located.here at n store) e = by_tree at n store e.0 e.1 e.2
-
 -- the store of an accepted file can be joined
 pub accepted_rooted : StoreIsRooted → AcceptedFileIsRooted
 accepted_rooted rooted hash said file start len t s h =
-    let o : IsFound t = found file start len t h.opened in
+    let o : IsOpenedStore t = opened_store file start len t h.opened in
     let sided : IsRootedStore hash (boxes_in t) s.readings (last_roots s.readings) =
     valid_rooted rooted hash said t s
-    (record { legal = o.legal; store = o.store; reads = h.reads.reads.each; valid = h.valid }) in
-    (sided, subst (λ k. 0 < k) (ap length (supers_are t) ∙ read_len (supers_in (boxes_in t)) s.readings sided.reads) (some_boxes t o.store))
+    (record { legal = o.legal; store = o.accepted; reads = h.reads.reads.each; valid = h.valid }) in
+    (sided, subst (λ k. 0 < k) (ap length (supers_are t) ∙ read_len (supers_in (boxes_in t)) s.readings sided.reads)
+    (some_boxes t o.accepted))
 
 -- ---- what is taken over
 

@@ -1,58 +1,25 @@
 -- Where no refusal has its condition, each stage comes to a value, and so do a plan and a build.
 use Rattle.std.proofs.Common.{◌≡◌, ℕ, List, [], ◌++◌, subst}
-use Rattle.std.specs.Prelude.{Result, Ok, Err}
+use Rattle.std.specs.Prelude.{Ok}
 use Rattle.c2_base.specs.declared.values.Question.{Question}
-use Rattle.c2_spec.specs.C2pa.Sign1.{SignParts}
 use Rattle.c2_spec.specs.Jumbf.Tree.{Tree}
-use Rattle.c2_spec.specs.Located.{Opening, absent, here, refused}
+use Rattle.c2_spec.specs.Located.{Opening}
 use Rattle.c2_spec.specs.declared.digest.Alg.{Alg}
 use Rattle.c2_spec.specs.declared.panel.Verdict.{Verdict}
-use Rattle.c2_spec.specs.declared.reason.Reason.{Reason}
 use Rattle.c2_rules.specs.Opened.{IsOpened}
 use Rattle.c2_definition.specs.DefinitionFile.{IsDefinition}
 use Rattle.c2_definition.specs.declared.types.Definition.{Definition}
-use Rattle.c2_definition.specs.declared.types.DefinitionField.{DefinitionField}
-use Rattle.c2_new_signature.specs.Message.{IsRefused}
-use Rattle.c2_new_signature.specs.declared.error.SignaturePart.{SignaturePart}
 use Rattle.c2_collect_spec.specs.Made.{IsCollectPlanUnrefused, IsCollectUnrefused, UnrefusedIsCollectMade, UnrefusedIsCollectPlanned}
 use Rattle.c2_collect_spec.specs.Order.{FilePair, IsFilePair, MediaFile, OtherFile}
-use Rattle.c2_collect_spec.specs.Order.{joined_refusals, other_refusals, parent_refusals, reserve_refusals}
+use Rattle.c2_collect_spec.specs.Order.{bad_definition, bad_signature, joined_refusals, media_refused, other_refusals, parent_refusals, reserve_refusals}
 use Rattle.c2_collect_spec.specs.Outcomes.{CollectGround, IsCollectMade, IsCollectPlanned, IsDefinitionStage, IsGroundStage, IsJoinedStage, IsMadeOn, IsMadeOver, IsMediaStage, IsMessageRead}
 use Rattle.c2_collect_spec.specs.Outcomes.{IsMessageStage, IsNewFile, IsOtherStage, IsPairStage, IsParentStage, IsPlannedOn, IsPlannedOver, SomeCollectMade, SomeCollectPlan}
-use Rattle.c2_collect_spec.specs.Outcomes.{definition_stage, ground_refusals, ground_signed, media_stage, message_stage, pair_of}
+use Rattle.c2_collect_spec.specs.Outcomes.{ground_refusals, ground_signed, pair_of}
 use Rattle.c2_collect_spec.proofs.Order.{none_both}
-use Rattle.c2_collect_spec.proofs.SomeOutcome.{IsMediaPassed, IsOtherPassed, defined_of, media_passed, opened_as, other_passed, pair_passed, read_taken}
+use Rattle.c2_lemmas.proofs.Stages.{stage_never, stage_value}
+use Rattle.c2_spec.proofs.Openings.{opening_never}
+use Rattle.c2_collect_spec.proofs.SomeOutcome.{IsMediaPassed, IsOtherPassed, defined_of, media_passed, opened_as, other_passed, pair_passed}
 use Rattle.c2_collect_spec.proofs.Stages.{NeverRefuses, comes_out, then_never, unless_never, value_never}
-
--- ---- the inputs
-
--- the media
-media_never : (media : List ℕ) → ((reason : Reason) (number : ℕ) → IsOpened media (refused reason number) → ⊥)
-    → NeverRefuses (IsMediaStage media)
-media_never media pass e h = by h.0 h.1 h.2
-  where
-    by : (what : Opening Tree) → IsOpened media what → Err e ≡ media_stage what → ⊥
-    by (refused reason number) o q = pass reason number o
-    by absent o q = cc (q)
-    by (here start len t) o q = cc (q)
-
--- the definition
-definition_never : (file : List ℕ) → ((field : DefinitionField) → IsDefinition file (Err field) → ⊥)
-    → NeverRefuses (IsDefinitionStage file)
-definition_never file pass e h = by h.0 h.1 h.2
-  where
-    by : (r : Result Definition DefinitionField) → IsDefinition file r → Err e ≡ definition_stage r → ⊥
-    by (Ok d) is q = cc (q)
-    by (Err field) is q = pass field is
-
--- the message
-message_never : (protected bytes : List ℕ) → ((test : SignaturePart) → IsRefused protected bytes test → ⊥)
-    → NeverRefuses (IsMessageStage protected bytes)
-message_never protected bytes pass e h = by h.0 h.1 h.2
-  where
-    by : (m : Result SignParts SignaturePart) → IsMessageRead protected bytes m → Err e ≡ message_stage m → ⊥
-    by (Ok p) is q = cc (q)
-    by (Err test) is q = pass test is
 
 -- ---- both files
 
@@ -127,8 +94,9 @@ plan_never : (hash : Alg → List ℕ → List ℕ) (said : Question → Verdict
     → IsCollectPlanUnrefused hash said media definition other
     → NeverRefuses (IsCollectPlanned hash said media definition other)
 plan_never hash said media definition other h =
-    then_never (IsMediaStage media) _ (media_never media h.media_passes) (λ what is_media.
-    then_never (IsDefinitionStage definition) _ (definition_never definition h.definition_passes) (λ d is_d.
+    then_never (IsMediaStage media) _ (opening_never media_refused (IsOpened media) h.media_passes) (λ what is_media.
+    then_never (IsDefinitionStage definition) _
+    (stage_never bad_definition (IsDefinition definition) h.definition_passes) (λ d is_d.
     let defined = defined_of definition d is_d in
     then_never (IsPairStage hash said media other what d) (IsPlannedOver hash d) (pair_never hash said media definition other what d h is_media defined) (λ p is_p.
     then_never (IsGroundStage d p) (IsPlannedOn hash d) (ground_never d p) (λ g is_g.
@@ -140,14 +108,19 @@ made_never : (hash : Alg → List ℕ → List ℕ) (said : Question → Verdict
     → IsCollectUnrefused hash said media definition message other
     → NeverRefuses (IsCollectMade hash said media definition message other)
 made_never hash said media definition message other h =
-    then_never (IsMediaStage media) _ (media_never media h.plan.media_passes) (λ what is_media.
-    then_never (IsDefinitionStage definition) _ (definition_never definition h.plan.definition_passes) (λ d is_d.
+    then_never (IsMediaStage media) _ (opening_never media_refused (IsOpened media) h.plan.media_passes)
+    (λ what is_media.
+    then_never (IsDefinitionStage definition) _
+    (stage_never bad_definition (IsDefinition definition) h.plan.definition_passes) (λ d is_d.
     let defined = defined_of definition d is_d in
-    then_never (IsMessageStage d.protected message) _ (message_never d.protected message (λ test. h.message_passes d test defined)) (λ parts is_parts.
+    then_never (IsMessageStage d.protected message) _
+    (stage_never bad_signature (IsMessageRead d.protected message) (λ test. h.message_passes d test defined))
+    (λ parts is_parts.
     then_never (IsPairStage hash said media other what d) (IsMadeOver hash d parts) (pair_never hash said media definition other what d h.plan is_media defined) (λ p is_p.
     then_never (IsGroundStage d p) (IsMadeOn hash d parts) (ground_never d p) (λ g is_g.
     let ground = file_none hash said media definition other what d p g h.plan is_media defined is_p is_g in
-    let reserve = h.reserve_passes d parts defined (read_taken d.protected message parts is_parts).spelled in
+    let reserve = h.reserve_passes d parts defined
+    (stage_value bad_signature (IsMessageRead d.protected message) parts is_parts).1 in
     unless_never (ground_refusals d g ++ reserve_refusals d parts) (IsNewFile hash d parts g)
     (none_both (ground_refusals d g) (reserve_refusals d parts) ground reserve) (λ e k. cc (k.2.2)))))))
 

@@ -11,7 +11,7 @@ use Rattle.c2_spec.specs.C2pa.Manifest.{Manifest, manifests_of}
 use Rattle.c2_spec.specs.C2pa.Message.{IsPlainMessage, bare_bytes, padded_read, tagged_message}
 use Rattle.c2_spec.specs.C2pa.Sign1.{SignParts, SpellsMessage}
 use Rattle.c2_spec.specs.Cbor.Deterministic.{shortest_head}
-use Rattle.c2_spec.specs.Cbor.Item.{dict, no_pairs}
+use Rattle.c2_spec.specs.Cbor.Item.{Pairs, dict, no_pairs}
 use Rattle.c2_spec.specs.Cbor.Legal.{HasBadSimple, IsLegal}
 use Rattle.c2_spec.specs.Cbor.Spelling.{direct}
 use Rattle.c2_spec.specs.Jpeg.Packets.{is_first_packet, is_store_start}
@@ -31,6 +31,7 @@ use Rattle.c2_rules.specs.Opened.{IsOpened}
 use Rattle.c2_rules.specs.Readings.{IsReading, Reading}
 use Rattle.c2_pad.specs.Fill.{fill_pairs}
 use Rattle.c2_definition.specs.declared.types.Definition.{Definition}
+use Rattle.c2_new_signature.specs.Message.{AreFew, HasNoPadding, IsAccepted}
 use Rattle.c2_new_signature.specs.Refusals.{reserve_needed}
 use Rattle.c2_new_signature.specs.Signed.{FillsOrNeedsMore, IsSigned, NeedsMore}
 use Rattle.c2_new_file_spec.specs.Fresh.{GivesDigests, MeetsTheRules, fresh_content}
@@ -43,6 +44,8 @@ use Rattle.c2_new_file_spec.specs.Places.{CanPut, IsPlace, Place, in_segments, p
 use Rattle.c2_collect_spec.specs.Collected.{AreApproved}
 use Rattle.c2_collect_spec.specs.Stores.{IsAcceptedFile}
 use Rattle.c2_collect_spec.proofs.Approved.{approved_is_valid}
+use Rattle.c2_cbor_spec.proofs.PlainBack.{one_item}
+use Rattle.c2_spec.proofs.OneMessage.{same_message}
 
 -- ---- the definitions
 
@@ -216,6 +219,29 @@ spelled = record {
   );
   is = record { header = (no_pairs, refl); form = inr refl };
 }
+
+-- the message is accepted, where the protected header is its own
+pub accepted_message : IsAccepted parts.protected message
+accepted_message =
+    (lit≤ tt,
+    ((parts, spelled),
+    (λ p s. subst IsPlainMessage (same p s) plain,
+    (λ p s. sym (ap (λ (q : SignParts). q.protected) (same p s)),
+    (λ p s. few p (same p s), (λ p s. none p (same p s), tt))))))
+  where
+    same : (p : SignParts) → SpellsMessage message p → parts ≡ p
+    same p s = same_message one_item message parts p spelled s
+
+    entries_none : (p : SignParts) → parts ≡ p → (entries : Pairs) → p.unprotected ≡ dict entries → no_pairs ≡ entries
+    entries_none p e entries is =
+        let own : dict no_pairs ≡ dict entries = ap (λ (q : SignParts). q.unprotected) e ∙ is in
+        cc (own)
+
+    few : (p : SignParts) → parts ≡ p → (entries : Pairs) → p.unprotected ≡ dict entries → AreFew entries
+    few p e entries is = subst AreFew (entries_none p e entries is) (lit≤ tt)
+
+    none : (p : SignParts) → parts ≡ p → (entries : Pairs) → p.unprotected ≡ dict entries → HasNoPadding entries
+    none p e entries is = subst HasNoPadding (entries_none p e entries is) (tt, tt)
 
 -- the message has eight bytes, which is enough without padding
 enough : reserve_needed 64 (length (bare_bytes parts)) ≡ None

@@ -6,7 +6,7 @@ use Rattle.c2_new_file_spec.proofs.FileLaws.{a_new_store_has_one_length_in_its_p
 use Rattle.c2_new_signature.proofs.TheLaws.{a_message_fills_its_reserve_or_needs_more}
 use Rattle.c2_new_content_spec.proofs.SplitLaws.{a_base_stays, a_file_built_in_its_place_meets_the_rules_fresh}
 use Rattle.c2_chain_spec.proofs.ChainLaws.{a_store_is_rooted_at_its_last_manifest}
-use Rattle.std.proofs.Common.{◌≡◌, Bool, true, false, ℕ, List, [], ◌∷◌, ◌++◌, Some, refl, sym, ap, ◌∙◌, subst, codes, lit≤, option_and_then}
+use Rattle.std.proofs.Common.{◌≡◌, Bool, true, false, ℕ, List, [], ◌∷◌, ◌++◌, Some, refl, sym, ap, ◌∙◌, subst, codes, option_and_then}
 use Rattle.std.specs.Prelude.{Ok}
 use Rattle.std.specs.List.{AllByRecursion}
 use Rattle.std.specs.Str.{is_utf8, chars}
@@ -16,24 +16,20 @@ use Rattle.uuid.proofs.OnLiterals.{uuid_on_literals}
 use Rattle.serde_json.proofs.OnLiterals.{serde_json_on_literals}
 use Rattle.serde_json.specs.Data.{Data}
 use Rattle.c2_base.specs.declared.values.Question.{Question}
-use Rattle.c2_spec.specs.C2pa.Message.{IsPlainMessage}
-use Rattle.c2_spec.specs.C2pa.Sign1.{SignParts, SpellsMessage}
-use Rattle.c2_spec.specs.Cbor.Item.{Pairs, dict, no_pairs}
 use Rattle.c2_spec.specs.declared.digest.Alg.{Alg}
 use Rattle.c2_spec.specs.declared.digest.Alg.TheVariants.{Sha256}
 use Rattle.c2_spec.specs.declared.panel.Verdict.{Verdict}
 use Rattle.c2_definition.specs.DefinitionFile.{HasPayload, HavePayloads, IsDefinition, assertions_in, definition_in}
 use Rattle.c2_definition.specs.Json.{object_of}
 use Rattle.c2_definition.specs.declared.types.NewAssertion.{NewAssertion}
-use Rattle.c2_new_signature.specs.Message.{AreFew, HasNoPadding, IsAccepted}
 use Rattle.c2_new_signature.specs.Signed.{IsSigned}
 use Rattle.c2_new_file_spec.specs.Written.{HasTexts}
 use Rattle.c2_new_file_spec.specs.Places.{place_start, range_len}
 use Rattle.c2_collect_spec.specs.Made.{CollectedIsMade, HasTextsIn, SomeCollectSucceeds}
 use Rattle.c2_collect_spec.specs.Order.{HasStore}
 use Rattle.c2_collect_spec.specs.Outcomes.{IsCollectMade, NewFile}
-use Rattle.c2_collect_spec.proofs.OneOutcome.{OneDefinition, OneItem, same_message}
-use Rattle.c2_collect_spec.proofs.Worked.{IsFirst, defined, first_file, first_len, is_absent, is_first, media, message, parts, place, plain, second_label, second_texts, signed, spelled, store}
+use Rattle.c2_collect_spec.proofs.OneOutcome.{OneDefinition, OneItem}
+use Rattle.c2_collect_spec.proofs.Worked.{IsFirst, accepted_message, defined, first_file, first_len, is_absent, is_first, media, message, parts, place, second_label, second_texts, signed, spelled, store}
 use Rattle.c2_collect_spec.proofs.WorkedPair.{IsSecond, WorkedLaws, alone_file, twice_file}
 use Rattle.c2_cbor_spec.proofs.PlainBack.{one_item}
 use Rattle.c2_rules.proofs.ClaimLemmas.{claim_rules_ask}
@@ -66,9 +62,10 @@ no_assertions : option_and_then assertions_in (object_of definition_file) ≡ So
 unfolding is_utf8 chars hex_on_literals uuid_on_literals serde_json_on_literals
 no_assertions = refl
 
--- each assertion of the definition file has its payload
-have_payloads : (v : Data) → object_of definition_file ≡ Some v → HavePayloads v
-have_payloads v at list is = by list (sym is ∙ (sym (ap (option_and_then assertions_in) at) ∙ no_assertions))
+-- each assertion of a definition file without assertions has its payload
+pub have_payloads : (file : List ℕ) → option_and_then assertions_in (object_of file) ≡ Some [] → (v : Data)
+    → object_of file ≡ Some v → HavePayloads v
+have_payloads file empty v at list is = by list (sym is ∙ (sym (ap (option_and_then assertions_in) at) ∙ empty))
   where
     by : (all : List NewAssertion) → Some all ≡ Some [] → AllByRecursion HasPayload all
     by [] e = tt
@@ -76,7 +73,11 @@ have_payloads v at list is = by list (sym is ∙ (sym (ap (option_and_then asser
 
 -- the file is this definition
 is_defined : IsDefinition definition_file (Ok (defined second_label))
-is_defined = record { payloads = true; told = (λ e. have_payloads, λ h. refl); is = sym (defined_row true refl) }
+is_defined = record {
+  payloads = true;
+  told = (λ e. have_payloads definition_file no_assertions, λ h. refl);
+  is = sym (defined_row true refl);
+}
 
 -- the texts of what the file is are texts
 texts_in : HasTextsIn definition_file
@@ -84,24 +85,6 @@ texts_in d is =
     let same : defined second_label ≡ d =
     cc (each_definition_is_read_one_way_one definition_file (Ok (defined second_label)) (Ok d) is_defined is) in
     subst HasTexts same second_texts
-
--- ---- the message
-
--- the message is accepted
-accepted : IsAccepted (defined second_label).protected message
-accepted = (lit≤ tt, ((parts, spelled), (λ p s. subst IsPlainMessage (same p s) plain, (λ p s. sym (ap (λ (q : SignParts). q.protected) (same p s)), (λ p s. few p (same p s), (λ p s. none p (same p s), tt))))))
-  where
-    same : (p : SignParts) → SpellsMessage message p → parts ≡ p
-    same p s = same_message message parts p spelled s
-
-    entries_none : (p : SignParts) → parts ≡ p → (entries : Pairs) → p.unprotected ≡ dict entries → no_pairs ≡ entries
-    entries_none p e entries is = let own : dict no_pairs ≡ dict entries = ap (λ (q : SignParts). q.unprotected) e ∙ is in cc (own)
-
-    few : (p : SignParts) → parts ≡ p → (entries : Pairs) → p.unprotected ≡ dict entries → AreFew entries
-    few p e entries is = subst AreFew (entries_none p e entries is) (lit≤ tt)
-
-    none : (p : SignParts) → parts ≡ p → (entries : Pairs) → p.unprotected ≡ dict entries → HasNoPadding entries
-    none p e entries is = subst HasNoPadding (entries_none p e entries is) (tt, tt)
 
 -- ---- the build
 
@@ -139,7 +122,7 @@ second_made hash said own other k = record {
   made =
       (collected_made a_message_fills_its_reserve_or_needs_more) hash said own definition_file message other
       (defined second_label) k.pair parts place
-      k.file is_defined accepted spelled k.read k.is;
+      k.file is_defined accepted_message spelled k.read k.is;
 }
 
 -- some build that collects succeeds

@@ -182,7 +182,6 @@ fn is_ingredient(name: &str) -> bool
 }
 
 /// What leads from an entry with this label to ingredients, where it differs.
-#[tactic(auto, using(crate::proofs::Found::found_first, crate::proofs::Found::found_second))]
 fn ingredient_difference<'a>(
     stores: &Stores<'a, '_, '_, '_>,
     left: &Labelled<'a, '_>,

@@ -2,6 +2,7 @@
 use Rattle.std.proofs.Common.{◌≡◌, ℕ, List, [], ◌∷◌, ◌++◌, codes, sym, ap, ◌∙◌}
 use Rattle.std.specs.List.{concat}
 use Rattle.std.proofs.lemmas.List.{append_assoc, append-nil, map-append}
+use Rattle.hex.specs.Hex.{encode_lower}
 use Rattle.c2_spec.specs.C2pa.Uri.{whole, signature}
 use Rattle.c2_rules.specs.Ingredients.{assertion_uri}
 use Rattle.c2_rules.specs.Rules.{box_uri}
@@ -12,6 +13,35 @@ use Rattle.c2_compare_evidence.specs.Differing.{binder_view, location_view, view
 use Rattle.c2_compare_evidence.specs.Shown.{ShownPair, shown, shown_by}
 use Rattle.c2_compare_evidence.specs.Writing.{later_lines, opening}
 use Rattle.c2_compare_evidence.specs.declared.lists.Difference.{Difference}
+
+-- what stands before the location where a digest binds the lists
+pub digest_opening : (name : List ℕ)
+    → codes "evidence digest " ++ name ++ codes " " ≡ codes "evidence digest " ++ (name ++ (codes " " ++ []))
+digest_opening name = ap (λ x. codes "evidence digest " ++ (name ++ x)) (sym (append-nil (codes " ")))
+
+-- and where a signature does
+pub signature_opening : codes "evidence signature " ≡ codes "evidence signature " ++ []
+signature_opening = sym (append-nil (codes "evidence signature "))
+
+-- two lists as lines of hex digits
+two_lines : (l r : List ℕ) → concat (form.hex_line l ∷ form.hex_line r ∷ [])
+    ≡ encode_lower l ++ (0x0A ∷ (encode_lower r ++ (0x0A ∷ [])))
+two_lines l r =
+    append_assoc (encode_lower l) (0x0A ∷ []) (form.hex_line r ++ [])
+    ∙ ap (λ x. encode_lower l ++ (0x0A ∷ x)) (append-nil (form.hex_line r))
+
+-- what stands behind the location where a digest binds the lists
+pub digest_later : (l r : List ℕ) → 0x0A ∷ concat (form.hex_line l ∷ form.hex_line r ∷ [])
+    ≡ codes "\n" ++ (encode_lower l ++ (codes "\n" ++ (encode_lower r ++ (codes "\n" ++ []))))
+digest_later l r = ap (λ x. 0x0A ∷ x) (two_lines l r)
+
+-- and where a signature does
+pub signature_later : (c l r : List ℕ) → 0x0A ∷ concat (form.hex_line c ∷ form.hex_line l ∷ form.hex_line r ∷ [])
+    ≡ codes "\n" ++ (encode_lower c ++ (codes "\n" ++ (encode_lower l ++ (codes "\n" ++ (encode_lower r ++ (codes "\n" ++ []))))))
+signature_later c l r =
+    ap (λ x. 0x0A ∷ x)
+    (append_assoc (encode_lower c) (0x0A ∷ []) (concat (form.hex_line l ∷ form.hex_line r ∷ []))
+    ∙ ap (λ x. encode_lower c ++ (0x0A ∷ x)) (two_lines l r))
 
 -- the location of an assertion
 pub assertion_lines : (m l : List ℕ) → printed (assertion_uri m l)

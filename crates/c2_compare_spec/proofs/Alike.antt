@@ -1,5 +1,5 @@
 -- Equal bytes are read alike: as claims, as ingredients, as messages, and as the items of bindings.
-use Rattle.std.proofs.Common.{◌≡◌, inl, inr, ℕ, Bool, true, false, List, [], ◌∷◌, Option, Some, None, Result, Ok, IsErr, is_err, MatchBool, Contains, refl, sym, ap, ◌∙◌, subst}
+use Rattle.std.proofs.Common.{◌≡◌, inl, inr, ℕ, Bool, true, false, List, [], ◌∷◌, Option, Some, None, Ok, MatchBool, Contains, refl, sym, ap, ◌∙◌, subst}
 use Rattle.std.specs.List.{AllZip}
 use Rattle.c2_spec.specs.C2pa.Assertion.{ingredient_of}
 use Rattle.c2_spec.specs.C2pa.Claim.{claim_of}
@@ -12,6 +12,7 @@ use Rattle.c2_spec.specs.declared.cbor.Ref.{Ref}
 use Rattle.c2_spec.specs.declared.claim.Claim.{Claim}
 use Rattle.c2_spec.specs.declared.claim.ClaimVersion.{ClaimVersion}
 use Rattle.c2_rules.proofs.ListLemmas.{contains_none, contains_head, contains_tail, contains_cons}
+use Rattle.c2_rules.proofs.OneReading.{one_parsed}
 use Rattle.c2_rules.specs.Chains.{own_assertion, assertion_label, entry_label}
 use Rattle.c2_rules.specs.Ingredients.{is_ingredient, box_version}
 use Rattle.c2_rules.specs.Questions.{is_own_label}
@@ -20,42 +21,8 @@ use Rattle.c2_rules.specs.declared.parsed.Parsed.{Parsed}
 use Rattle.c2_rules.specs.declared.parsed.Parsed.TheVariants.{NoItem, NoForm, Value}
 use Rattle.c2_compare_spec.specs.ChainContent.{claim_bytes_of}
 use Rattle.c2_compare_spec.specs.Correspondence.{HaveSameClaim}
-use Rattle.c2_cbor_spec.proofs.PlainBack.{one_item as one_item_law}
+use Rattle.c2_cbor_spec.proofs.PlainBack.{same_item}
 use Rattle.c2_lemmas.proofs.Options.{one_value}
-
--- ---- items
-
--- bytes are one item
-pub one_item : (s : List ℕ) (v w : Item) → HasItem s v → HasItem s w → v ≡ w
-one_item s v w p q = one_item_law v w s p.spelled q.spelled
-
--- a refusal is no value
-no_value : {A E : Type 0} {P : Type 0} (r : Result A E) (x : A) → IsErr r → r ≡ Ok x → P
-no_value r x refused is = absurd (let both = sym (ap is_err is) ∙ refused in cc (both))
-
--- a payload is read as one thing
-pub one_parsed : {A E : Type 0} → (read : Item → Result A E) (o : Option (List ℕ)) (a b : Parsed A)
-    → IsParsed read o a → IsParsed read o b → a ≡ b
-one_parsed read None NoItem NoItem p q = refl
-one_parsed read None NoItem NoForm p q = absurd q
-one_parsed read None NoItem (Value y) p q = absurd q
-one_parsed read None NoForm b p q = absurd p
-one_parsed read None (Value x) b p q = absurd p
-one_parsed read (Some s) NoItem NoItem p q = refl
-one_parsed read (Some s) NoItem NoForm p q = absurd (p q.0 q.1)
-one_parsed read (Some s) NoItem (Value y) p q = absurd (p q.0 q.1)
-one_parsed read (Some s) NoForm NoItem p q = absurd (q p.0 p.1)
-one_parsed read (Some s) NoForm NoForm p q = refl
-one_parsed read (Some s) NoForm (Value y) p q =
-    no_value (read p.0) y p.2 (ap read (one_item s p.0 q.0 p.1 q.1) ∙ q.2)
-one_parsed read (Some s) (Value x) NoItem p q = absurd (q p.0 p.1)
-one_parsed read (Some s) (Value x) NoForm p q =
-    no_value (read q.0) x q.2 (ap read (one_item s q.0 p.0 q.1 p.1) ∙ p.2)
-one_parsed {A} {E} read (Some s) (Value x) (Value y) p q =
-    let both : ◌≡◌ {A = Result A E} (Ok x) (Ok y) =
-    sym p.2 ∙ ap read (one_item s p.0 q.0 p.1 q.1) ∙ q.2 in
-    let one : x ≡ y = cc (both) in
-    ap Value one
 
 -- ---- claims
 
@@ -104,7 +71,7 @@ claims_alike r s h k e c d is are =
     let y = claim_item other (claim_bytes_of s) s.claim d k.claim are in
     let bytes : x.bytes ≡ y.bytes = one_value (claim_bytes_of r) x.bytes y.bytes x.has_bytes (e ∙ y.has_bytes) in
     let item : x.item ≡ y.item =
-    one_item y.bytes x.item y.item (subst (λ b. HasItem b x.item) bytes x.has_item) y.has_item in
+    same_item y.bytes x.item y.item (subst (λ b. HasItem b x.item) bytes x.has_item) y.has_item in
     let same : c ≡ d = one_claim_of own other y.item c d (ap (claim_of own) (sym item) ∙ x.is) y.is in
     x.read ∙ ap Value same ∙ sym y.read
 

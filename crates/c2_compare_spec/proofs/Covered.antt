@@ -21,12 +21,11 @@ use Rattle.c2_compare_spec.specs.Differences.{all_ingredients, all_unredacted, b
 use Rattle.c2_compare_spec.specs.Evidence.{do_differ}
 use Rattle.c2_compare_spec.specs.Lists.{IsListOf}
 use Rattle.c2_compare_spec.specs.Lists.IsListOf.{covered}
-use Rattle.c2_compare_spec.proofs.Alike.{one_item}
 use Rattle.c2_compare_spec.proofs.Facts.{SeenAlike, BindingFacts, FileFacts}
 use Rattle.c2_compare_spec.proofs.Links.{binding_stays, stays, one_alg, one_claim, label_second, one_entry, BothBoxes, both_boxes, box_same}
 use Rattle.c2_compare_spec.proofs.Walk.{root}
 use Rattle.c2_compare_spec.proofs.Contents.{kept_equal}
-use Rattle.c2_cbor_spec.proofs.PlainBack.{one_item as one_item_law}
+use Rattle.c2_cbor_spec.proofs.PlainBack.{one_item as one_item_law, same_item}
 use Rattle.c2_lemmas.proofs.Options.{one_value}
 
 -- The covered texts of both files have one digest, by a known algorithm.
@@ -132,7 +131,7 @@ covered_alike hash said s t f g alike claims none same = record {
         ∙ ap (λ (x : ReadBox). x.boxed.item) right ∙ b.has_bytes)
 
     item : b.item ≡ a.item
-    item = one_item a.bytes b.item a.item (subst (λ z. HasItem z b.item) (sym bytes) b.has_item)
+    item = same_item a.bytes b.item a.item (subst (λ z. HasItem z b.item) (sym bytes) b.has_item)
         a.has_item
 
     -- which names one algorithm and one digest

@@ -1,7 +1,7 @@
 -- A box tree that is a store of manifests, and what these are read as: labels differ, a box is found by its
 -- label, and equal contents are seen alike.
-use Rattle.std.proofs.Common.{◌≡◌, ◌≢◌, inl, inr, ℕ, zero, suc, ◌<◌, true, false, List, [], ◌∷◌, ◌++◌, map, length, Option, Some, None, unwrap_or, Contains, slice_get, refl, sym, ap, ◌∙◌, subst, arith, eqb}
-use Rattle.std.specs.List.{AllByRecursion, find, flat_map}
+use Rattle.std.proofs.Common.{◌≡◌, ◌≢◌, ℕ, zero, suc, ◌<◌, true, false, List, [], ◌∷◌, ◌++◌, map, length, Option, Some, None, unwrap_or, Contains, slice_get, refl, sym, ap, ◌∙◌, subst, arith, eqb}
+use Rattle.std.specs.List.{find, flat_map}
 use Rattle.std.specs.Option.{option_map}
 use Rattle.std.proofs.lemmas.Bool.Decides.{Decides-eqb}
 use Rattle.std.proofs.lemmas.Option.{same_Some}
@@ -11,7 +11,6 @@ use Rattle.c2_spec.specs.Jumbf.Tree.{Tree, IsLegalTree}
 use Rattle.c2_spec.proofs.JumbfBoxes.{some_box}
 use Rattle.c2_spec.proofs.JumbfChildren.{label_at, children_inside}
 use Rattle.c2_spec.proofs.GivenLabels.{given_is, is_given_back}
-use Rattle.c2_rules.proofs.ListLemmas.{contains_none, contains_cons}
 use Rattle.c2_rules.specs.Chains.{label_in}
 use Rattle.c2_rules.specs.Readings.{ReadBox, IsReadBox, Reading, IsReading, AreReadings}
 use Rattle.c2_rules.specs.Rules.{is_labelled, box_with}
@@ -20,7 +19,7 @@ use Rattle.c2_compare_spec.proofs.Labels.{superboxes_apart, inside_apart}
 use Rattle.c2_compare_spec.proofs.Lists.{find_says, find_only, filter_says, none_cons, none_at, none_append, none_flat}
 use Rattle.c2_compare_spec.proofs.Trees.{StandsSuper, is_super, contents_seen, contents_manifest}
 use Rattle.c2_lemmas.proofs.Bools.{not_false_is_true, true_and_false}
-use Rattle.c2_lemmas.proofs.Each.{at_contains, contains_at, partner_at, zip_length}
+use Rattle.c2_lemmas.proofs.Each.{at_contains, contains_at, member_of, partner_at, zip_length}
 use Rattle.c2_lemmas.proofs.Lists.{mapped_length}
 use Rattle.c2_lemmas.proofs.Options.{mapped_from}
 
@@ -31,15 +30,6 @@ pub record IsStored (t : Tree) (rs : List Reading) : Type 0 where
   pub readings : AreReadings (manifests_of t) rs
 
 -- ---- lists
-
--- what holds of each member holds of one
-all_member : {X : Type 0} (P : X → Type 0) (xs : List X) (x : X) → AllByRecursion P xs → Contains xs x → P x
-all_member P [] x h c = absurd (contains_none x c)
-all_member P (y ∷ ys) x h c =
-    elim (contains_cons y x ys c) [
-      | inl same ↦ subst P same h.0
-      | inr rest ↦ all_member P ys x h.1 rest
-    ]
 
 -- what stands at a place of a mapped list is made of what stands there in the list
 mapped_at : {X Y : Type 0} (f : X → Y) (xs : List X) (n : ℕ) (y : Y) → slice_get (map f xs) n ≡ Some y
@@ -106,7 +96,7 @@ has_label t i e c =
 super_in : (t : Tree) (k i : ℕ) → k < tree_count t → Contains (superboxes t k) i → StandsSuper t i
 super_in t k i lt c =
     let f = filter_says (is_superbox t) (child_indices t k) i c in
-    is_super t i (all_member (λ j. j < tree_count t) (child_indices t k) i (children_inside t k lt) f.0) f.1
+    is_super t i (member_of (λ j. j < tree_count t) (child_indices t k) i (children_inside t k lt) f.0) f.1
 
 -- a superbox inside a box that may be missing stands in the tree
 super_inside : (t : Tree) (o : Option ℕ) → ((j : ℕ) → o ≡ Some j → j < tree_count t) → (p k : ℕ)

@@ -22,9 +22,10 @@ use Rattle.c2_jpegseg_survey.specs.Surveys.{HasPacketPoint, less_found}
 use Rattle.c2_jpegseg_survey.specs.declared.surveying.Surveyed.{Surveyed}
 use Rattle.c2_container.specs.Contained.{IsSaid}
 use Rattle.c2_container.specs.declared.types.Container.TheVariants.{Bmff, Jpeg}
-use Rattle.c2_container.proofs.Containers.{as_bmff, as_jpeg, of_bmff, of_jpeg}
+use Rattle.c2_spec.proofs.Containers.{as_bmff, of_bmff}
 use Rattle.c2_lemmas.proofs.Bools.{and_false}
 use Rattle.c2_spec.proofs.BmffOneOutcome.{one_bmff_located}
+use Rattle.c2_spec.proofs.JpegLocated.{as_jpeg, of_jpeg}
 
 -- ---- the front of a file
 

@@ -1,46 +1,10 @@
 -- One append after another.
-use Rattle.std.proofs.Common.{◌≡◌, refl, sym, ap, ◌∙◌, subst, ℕ, ◌+◌, ◌-◌, Bool, List, ◌++◌, length, take, Result, Ok, Err, arith, length-append}
-use Rattle.std.proofs.Math.Seq.{take-append-add}
-use Rattle.std.proofs.lemmas.List.{take-append-le}
+use Rattle.std.proofs.Common.{◌≡◌, refl, sym, ap, ◌∙◌, subst, ℕ, ◌+◌, Bool, List, ◌++◌, length, Result, Ok, Err, arith, length-append}
 use Rattle.std.specs.declared.option.Option.{Option}
-use Rattle.std.specs.declared.option.Option.TheVariants.{Some, None}
 use Rattle.c2_base.specs.Causes.{Rose}
-use Rattle.c2_base.specs.Sink.{then_written, spare_less, TakesPrefix, OkWithinSpare}
+use Rattle.c2_base.specs.Sink.{then_written, spare_less, OkWithinSpare}
 use Rattle.c2_copying.specs.Appending.{IsWriting}
-use Rattle.c2_base.proofs.Written.{appended_twice, spare_less_two}
-
--- a prefix of the first list is one of both
-prefix-front : {K : Type 0} (written : K → Option (List ℕ)) (spare : K → Option ℕ) (front back : List ℕ) (old new : K)
-    → TakesPrefix written spare front old new → TakesPrefix written spare (front ++ back) old new
-prefix-front written spare front back old new h = record {
-  count = h.count;
-  in_piece = omega (arith, h.in_piece, length-append front back);
-  prefix = h.prefix ∙ ap (λ p. then_written (written old) p) (sym (take-append-le h.count front back h.in_piece));
-  less = h.less;
-}
-
--- the first list was appended, and then a prefix of the second
-prefix-back :
-    {K : Type 0} (written : K → Option (List ℕ)) (spare : K → Option ℕ) (front back : List ℕ) (old mid new : K)
-    → written mid ≡ then_written (written old) front → spare mid ≡ spare_less (spare old) (length front)
-    → TakesPrefix written spare back mid new → TakesPrefix written spare (front ++ back) old new
-prefix-back written spare front back old mid new all less h = record {
-  count = length front + h.count;
-  in_piece = omega (arith, h.in_piece, length-append front back);
-  prefix =
-      h.prefix ∙ ap (λ w. then_written w (take h.count back)) all
-      ∙ appended_twice (written old) front (take h.count back)
-      ∙ ap (λ p. then_written (written old) p) (sym (take-append-add front back h.count));
-  less = h.less ∙ ap (λ s. spare_less s h.count) less ∙ spare_less_two (spare old) (length front) h.count;
-}
-
--- what is within a spare leaves room for the rest
-within-back : {T E : Type 0} (old : Option ℕ) (m n : ℕ) (r : Result T E) → OkWithinSpare (spare_less old m) n r
-    → OkWithinSpare old (m + n) r
-within-back None m n r h s is fits = absurd (cc (is))
-within-back (Some t) m n r h s is fits =
-    let same : t ≡ s = cc (is) in
-    h (t - m) refl (omega (arith, same, fits))
+use Rattle.c2_base.proofs.Written.{appended_twice, prefix-back, prefix-front, spare_less_two, within-back}
 
 -- the same of an equal list and an equal answer
 pub same : {K T E : Type 0} (written : K → Option (List ℕ)) (spare : K → Option ℕ) (finished : K → Bool) (faults : K → ℕ) (xs ys : List ℕ) (old new : K) (r q : Result T E)

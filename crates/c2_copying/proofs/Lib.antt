@@ -1,4 +1,5 @@
 pub mod Appending
 mod Kept
 pub mod Spares
+pub mod TheLaws
 mod Written

@@ -1,12 +1,13 @@
 -- What was written to a sink step by step, and the part of a file that was read of it.
 use Rattle.std.proofs.Common.{◌≡◌, ℕ, ◌+◌, ◌-◌, ◌≤◌, Bool, List, [], ◌++◌, length, take, drop, Option, refl, sym, ap, ◌∙◌, subst, arith, append-nil, length-append}
-use Rattle.std.proofs.Math.Seq.{take-add, take-append-add}
-use Rattle.std.proofs.lemmas.List.{take_all, drop-drop}
+use Rattle.std.proofs.Math.Seq.{take-append-add}
+use Rattle.std.proofs.lemmas.List.{take_all}
 use Rattle.std.specs.declared.option.Option.TheVariants.{Some, None}
 use Rattle.c2_base.specs.Sink.{HasWrittenPrefix, then_written, spare_less}
 use Rattle.c2_copying.specs.Writing.{Ending, write_fault, Breaks, IsOverSpare, Puts, StepsFollow, piece_of}
 use Rattle.c2_base.proofs.Written.{appended_twice, prefix_before, spare_less_two}
 use Rattle.c2_copying.proofs.Spares.{over_later, over_more}
+use Rattle.c2_copying.proofs.TheLaws.{parts_join, piece_from, piece_none}
 
 -- ---- lists
 
@@ -19,19 +20,6 @@ then_none (Some w) = ap Some (append-nil w)
 spare_none : (s : Option ℕ) → spare_less s 0 ≡ s
 spare_none None = refl
 spare_none (Some s) = let e : s - 0 ≡ s = omega arith in ap Some e
-
--- two parts of a file, one after the other
-parts_join : (file : List ℕ) (from at to : ℕ) → from ≤ at → at ≤ to
-    → piece_of file from at ++ piece_of file at to ≡ piece_of file from to
-parts_join file from at to a b =
-    let one : from + (at - from) ≡ at = omega arith in
-    let two : at - from + (to - at) ≡ to - from = omega arith in
-    let back : drop (at - from) (drop from file) ≡ drop at file =
-    drop-drop (at - from) from file ∙ ap (λ (n : ℕ). drop n file) one in
-    let all : take (at - from + (to - at)) (drop from file) ≡ take (at - from) (drop from file) ++ take (to - at) (drop (at - from) (drop from file)) =
-    take-add (at - from) (to - at) (drop from file) in
-    sym
-    (sym (ap (λ (n : ℕ). take n (drop from file)) two) ∙ all ∙ ap (λ (x : List ℕ). take (at - from) (drop from file) ++ take (to - at) x) back)
 
 -- ---- steps
 
@@ -106,10 +94,6 @@ follow written spare finished = record {
 
 -- ---- pieces of a file
 
--- no bytes are between a place and itself
-piece_none : (file : List ℕ) (at : ℕ) → piece_of file at at ≡ []
-piece_none file at = let none : at - at ≡ 0 = omega arith in ap (λ (n : ℕ). take n (drop at file)) none
-
 -- nothing was written yet
 pub puts_none :
     {K : Type 0} (written : K → Option (List ℕ)) (spare : K → Option ℕ) (finished : K → Bool) (file : List ℕ) (at : ℕ)
@@ -120,10 +104,6 @@ puts_none written spare finished file at k = subst (λ (x : List ℕ). Puts writ
   less = sym (spare_none (spare k));
   same = refl;
 })
-
--- the piece from a place on, of so many bytes
-piece_from : (file : List ℕ) (at n m : ℕ) → m ≡ n → take m (drop at file) ≡ piece_of file at (at + n)
-piece_from file at n m same = let size : m ≡ at + n - at = omega (arith, same) in ap (λ (k : ℕ). take k (drop at file)) size
 
 -- the next piece was written
 pub next_piece :

@@ -1,21 +1,13 @@
 -- Two texts whose prefixes are compared.
 use Rattle.std.proofs.Common.{◌≡◌, ℕ, suc, ◌+◌, ◌-◌, ◌≤◌, min, ◌&&◌, true, List, [], ◌∷◌, ◌++◌, length, take, drop, refl, sym, ap, ◌∙◌, arith, append_assoc, eqb}
-use Rattle.std.specs.Prelude.{bytes_eq, nat_eq}
+use Rattle.std.specs.Prelude.{bytes_eq}
 use Rattle.std.proofs.Math.Seq.{take-add}
 use Rattle.std.proofs.lemmas.Bool.{eqb-true, ne_eqb}
 use Rattle.std.proofs.lemmas.List.{length-take-le, length-drop, drop-drop}
 use Rattle.c2_cover.specs.Covers.{Reading, rest_of}
 use Rattle.c2_cover.specs.Unread.{Lies, unread}
 use Rattle.c2_cover.specs.declared.same.Pending.{Pending}
-use Rattle.c2_lemmas.proofs.Bools.{and_join}
-
--- two lists whose parts have equal lengths, compared in parts
-pub eq_append : (xs ys us vs : List ℕ) → length xs ≡ length ys
-    → bytes_eq (xs ++ us) (ys ++ vs) ≡ (bytes_eq xs ys && bytes_eq us vs)
-eq_append [] [] us vs e = refl
-eq_append [] (y ∷ ys) us vs e = absurd (let f : 0 ≡ suc (length ys) = e in omega (arith, f))
-eq_append (x ∷ xs) [] us vs e = absurd (let f : suc (length xs) ≡ 0 = e in omega (arith, f))
-eq_append (x ∷ xs) (y ∷ ys) us vs e = let f : length xs ≡ length ys = let g : suc (length xs) ≡ suc (length ys) = e in omega (arith, g) in ap (λ b. nat_eq x y && b) (eq_append xs ys us vs f) ∙ and_join (nat_eq x y) (bytes_eq xs ys) (bytes_eq us vs)
+use Rattle.c2_lemmas.proofs.Parts.{eq_append}
 
 -- the prefix of what is pending, and the rest
 pub unread_split : (from to n : ℕ) (buf : List ℕ) (r : Reading) (file : List ℕ) → from ≤ to → to ≤ length buf

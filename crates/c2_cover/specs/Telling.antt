@@ -3,7 +3,7 @@ use Rattle.std.specs.Prelude.{◌≡◌, ℕ, ◌+◌, ◌-◌, ◌≤◌, ⊤, 
 use Rattle.c2_base.specs.declared.values.Range.{Range}
 use Rattle.c2_bmff_rows.specs.declared.row.RootBox.{RootBox}
 use Rattle.c2_spec.specs.Cover.{is_excluded}
-use Rattle.c2_cover.specs.Covers.{Covered, AreMerged}
+use Rattle.c2_cover.specs.Covers.{Covered, AreMerged, IsCoverOf}
 use Rattle.c2_cover.specs.BoxOffsets.{AreBoxOffsets, offsets_of}
 use Rattle.c2_cover.specs.declared.offsets.BoxOffset.{BoxOffset}
 
@@ -51,3 +51,9 @@ pub record IsToldBy (rows : List RootBox) (c d : Covered) : Type 0 where
   pub ranges : d.ranges ≡ c.ranges
   pub rise : AreBoxOffsets d.size d.ranges 0 d.offsets
   pub all : Follow 0 rows → d.offsets ≡ offsets_of (is_excluded c.ranges) rows
+
+-- the cover of a file of this size that leaves out these ranges, with box offsets of these root boxes
+pub record IsToldCover (size : ℕ) (ranges : List Range) (rows : List RootBox) (d : Covered) : Type 0 where
+  pub bare : Covered
+  pub cover : IsCoverOf size ranges bare
+  pub told : IsToldBy rows bare d

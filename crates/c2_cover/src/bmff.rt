@@ -1,18 +1,19 @@
 // The cover of a BMFF hash.
-ghost use Rattle.std.specs.Prelude.{◌≡◌, ℕ, All, OnOk, IfOk, IfErr};
+ghost use Rattle.std.specs.Prelude.{◌≡◌, ◌+◌, ◌≤◌, ℕ, All, OnOk, IfOk, IfErr};
 ghost use Rattle.std.specs.Option.{ForSome};
 ghost use Rattle.c2_base.specs.Source.{StaysSource};
 ghost use Rattle.c2_bmff_boxes.specs.Causes.{IsBmffCaused, OrBmffFault};
 ghost use Rattle.c2_bmff_rows.specs.Rows.{IsBoxWithin};
 ghost use Rattle.c2_cover.specs.BmffCovers.{IsBmffCoverOf};
 ghost use Rattle.c2_cover.specs.Refused.{IsBmffCause};
+ghost use Rattle.c2_cover.specs.Telling.{IsToldCover};
 ghost use Rattle.c2_cover.specs.BoxOffsets.{AreBoxOffsets};
 
 use crate::cover::{Cover, CoverError, cover_without};
 use crate::offsets::with_offsets;
-use c2_base::{MediaError, Source};
+use c2_base::{MediaError, NoMemory, Range, Source};
 use c2_bmff::types::Roots;
-use c2_bmff::{Exclusion, match_paths};
+use c2_bmff::{Exclusion, RootBox, match_paths};
 use std::alloc::Global;
 
 // The error of a search on paths as one of a cover: that a source failed, or that memory ran out.
@@ -35,6 +36,23 @@ fn matching_error(error: MediaError) -> CoverError
         | MediaError::StoreTooLarge(_)
         | MediaError::TooManyBoxes => unreachable!(),
     }
+}
+
+// The cover of a file of this size that leaves out these ranges, in any order, and tells the starts of these root boxes.
+fn told_cover(
+    alloc: Global,
+    size: u64,
+    ranges: &[Range],
+    rows: &[RootBox],
+) -> Result<Cover, NoMemory>
+    requires ranges { All (λ r. r.start + r.length ≤ size) ranges.now }
+    requires rows { All (IsBoxWithin size) rows.now }
+    ensures { IfOk result (IsToldCover size ranges.now rows.now) }
+{
+    let mut sorted = Vec::from_slice(alloc, ranges)?;
+    let cover = cover_without(alloc, sorted.as_mut_slice(), size)?;
+    let told = with_offsets(alloc, cover, rows)?;
+    Ok(told)
 }
 
 /// The cover of a BMFF hash with these exclusions, of the file with these root boxes (C2PA Technical Specification 2.x,
@@ -62,8 +80,6 @@ pub fn bmff_cover<S: Source>(
         Ok(ranges) => ranges,
         Err(error) => return Err(matching_error(error)),
     };
-    let mut sorted = Vec::from_slice(alloc, ranges.as_slice())?;
-    let cover = cover_without(alloc, sorted.as_mut_slice(), size)?;
-    let told = with_offsets(alloc, cover, roots.as_slice())?;
-    Ok(told)
+    let cover = told_cover(alloc, size, ranges.as_slice(), roots.as_slice())?;
+    Ok(cover)
 }

@@ -1,8 +1,7 @@
 -- What the items of a list are, read from the first on.
-use Rattle.std.proofs.Common.{◌≡◌, ℕ, ◌+◌, ◌<◌, List, [], ◌∷◌, ◌++◌, length, drop, get_or, Option, Some, None, refl, sym, ap, ◌∙◌, append_assoc, append-nil}
+use Rattle.std.proofs.Common.{◌≡◌, ℕ, ◌+◌, ◌<◌, ◌≤◌, List, [], ◌∷◌, ◌++◌, length, drop, get_or, Option, Some, None, refl, sym, ap, ◌∙◌, append_assoc, append-nil}
 use Rattle.std.specs.Option.{option_map}
-use Rattle.std.proofs.lemmas.List.{drop_more}
-use Rattle.std.proofs.Math.Seq.{drop-length}
+use Rattle.std.proofs.lemmas.List.{drop_all, drop_more}
 use Rattle.serde_json.specs.Data.{Data}
 use Rattle.serde_json.specs.View.{view, items_view}
 use Rattle.serde_json.specs.declared.value.Value.{Value}
@@ -32,14 +31,16 @@ onto front x None = refl
 onto front x (Some back) = ap Some (sym (append_assoc front (x ∷ []) back))
 
 -- one more is read
-pub each_next : {A : Type 0} (read : Data → Option A) (vs : List Value) (i : ℕ) (v : Value) (x : A) (front : List A)
+pub each_next : {A : Type 0} (read : Data → Option A) (vs : List Value) (i : ℕ) (v : Value) (x : A) (front more : List A)
     → i < length vs → v ≡ get_or vs i v
     → each_of read (items_view vs) ≡ and_then_all front (each_of read (items_view (drop i vs))) → Some x ≡ read (view v)
-    → each_of read (items_view vs) ≡ and_then_all (front ++ x ∷ []) (each_of read (items_view (drop (i + 1) vs)))
-each_next read vs i v x front lt at so_far is =
+    → more ≡ front ++ x ∷ []
+    → each_of read (items_view vs) ≡ and_then_all more (each_of read (items_view (drop (i + 1) vs)))
+each_next read vs i v x front more lt at so_far is grown =
     let rest = all_of read (drop (i + 1) vs) in
     so_far ∙ ap (and_then_all front) (all_from read vs i v lt at)
     ∙ ap (λ o. and_then_all front (joined o rest)) (sym is) ∙ onto front x rest
+    ∙ ap (λ xs. and_then_all xs rest) (sym grown)
 
 -- one is none
 pub each_stops : {A : Type 0} (read : Data → Option A) (vs : List Value) (i : ℕ) (v : Value) (front : List A)
@@ -52,8 +53,8 @@ each_stops read vs i v front lt at so_far is =
     (so_far ∙ ap (and_then_all front) (all_from read vs i v lt at) ∙ ap (λ o. and_then_all front (joined o rest)) (sym is))
 
 -- all are read
-pub each_done : {A : Type 0} (read : Data → Option A) (vs : List Value) (front : List A)
-    → each_of read (items_view vs) ≡ and_then_all front (each_of read (items_view (drop (length vs) vs)))
+pub each_done : {A : Type 0} (read : Data → Option A) (vs : List Value) (i : ℕ) (front : List A) → length vs ≤ i
+    → each_of read (items_view vs) ≡ and_then_all front (each_of read (items_view (drop i vs)))
     → Some front ≡ each_of read (items_view vs)
-each_done read vs front so_far =
-    sym (so_far ∙ ap (λ ws. and_then_all front (all_of read ws)) (drop-length vs) ∙ ap Some (append-nil front))
+each_done read vs i front end so_far =
+    sym (so_far ∙ ap (λ ws. and_then_all front (all_of read ws)) (drop_all i vs end) ∙ ap Some (append-nil front))

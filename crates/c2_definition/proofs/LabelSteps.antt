@@ -2,11 +2,11 @@
 use Rattle.std.proofs.Common.{◌≡◌, ℕ, zero, suc, ◌+◌, ◌<◌, ◌≤◌, Bool, true, false, not, ◌&&◌, List, [], ◌∷◌, length, drop, get_or, refl, sym, ap, ◌∙◌}
 use Rattle.std.specs.List.{list_any}
 use Rattle.std.proofs.lemmas.Bool.{and_parts, both_ways, false_from_ne_true}
-use Rattle.std.proofs.lemmas.List.{drop_more}
 use Rattle.c2_label_index.specs.Labels.{is_among}
 use Rattle.c2_label_index.specs.declared.labels.Labels.{Labels}
 use Rattle.c2_definition.specs.declared.types.NewAssertion.{NewAssertion}
 use Rattle.c2_definition.specs.DefinitionFile.{has_label, labels_differ}
+use Rattle.c2_lemmas.proofs.Lists.{drop_first}
 
 -- the labels from a place on differ, and a set has just these
 pub record Behind (list : List NewAssertion) (i : ℕ) (behind : Labels) : Type 0 where
@@ -14,18 +14,13 @@ pub record Behind (list : List NewAssertion) (i : ℕ) (behind : Labels) : Type 
   pub kept : (other : List ℕ) → is_among behind other ≡ list_any (has_label other) (drop i list)
   pub differ : labels_differ (drop i list) ≡ true
 
--- the new assertions from a place on are the one there and those behind it
-here_and_behind : (list : List NewAssertion) (i : ℕ) (a : NewAssertion) → i < length list → a ≡ get_or list i a
-    → drop i list ≡ a ∷ drop (i + 1) list
-here_and_behind list i a lt at = drop_more list i a lt ∙ ap (λ b. b ∷ drop (i + 1) list) (sym at)
-
 -- labels differ from a place on where they differ behind it and none there is the one at it
 differ_from : (list : List NewAssertion) (i : ℕ) (a : NewAssertion) (found : Bool) → i < length list
     → a ≡ get_or list i a
     → found ≡ list_any (has_label a.label) (drop (i + 1) list) → labels_differ (drop (i + 1) list) ≡ true
     → labels_differ (drop i list) ≡ (not found && true)
 differ_from list i a found lt at is behind =
-    ap labels_differ (here_and_behind list i a lt at) ∙ ap (λ b. not b && labels_differ (drop (i + 1) list)) (sym is)
+    ap labels_differ (drop_first list i a lt at) ∙ ap (λ b. not b && labels_differ (drop (i + 1) list)) (sym is)
     ∙ ap (λ b. not found && b) behind
 
 -- labels that all differ do so from each place on

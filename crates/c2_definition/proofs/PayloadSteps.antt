@@ -1,33 +1,28 @@
 -- Whether the bytes of new assertions are for their content boxes.
-use Rattle.std.proofs.Common.{◌≡◌, ◌↔◌, ℕ, ◌+◌, ◌<◌, Bool, true, false, List, ◌∷◌, length, drop, get_or, Option, Some, None, refl, sym, ap, subst, ◌∙◌, Result, IfOk, if◌then◌else◌}
+use Rattle.std.proofs.Common.{◌≡◌, ◌↔◌, ℕ, ◌+◌, ◌<◌, Bool, true, false, List, length, drop, get_or, Option, Some, None, refl, sym, ap, subst, ◌∙◌, Result, IfOk, if◌then◌else◌, ◌≤◌}
 use Rattle.std.specs.List.{AllByRecursion}
 use Rattle.std.proofs.lemmas.Bool.{iff_false, false_from_ne_true}
-use Rattle.std.proofs.lemmas.List.{drop_more}
-use Rattle.std.proofs.Math.Seq.{drop-length}
+use Rattle.std.proofs.lemmas.List.{drop_all}
 use Rattle.serde_json.specs.Data.{Data}
 use Rattle.c2_definition.specs.declared.types.NewAssertion.{NewAssertion}
 use Rattle.c2_base.specs.declared.outside.NoMemory.{NoMemory}
 use Rattle.c2_definition.specs.declared.types.Payload.TheVariants as payload
 use Rattle.c2_definition.specs.DefinitionFile.{IsWholeItem, IsPayload, HasPayload, HavePayloads, assertions_in}
+use Rattle.c2_lemmas.proofs.Lists.{drop_first}
 
 -- all of a list are for their boxes exactly where those from a place on are
 abbrev pub AllFrom : List NewAssertion → ℕ → Type 0
 AllFrom list i = AllByRecursion HasPayload list ↔ AllByRecursion HasPayload (drop i list)
 
--- the new assertions from a place on are the one there and those behind it
-here : (list : List NewAssertion) (i : ℕ) (a : NewAssertion) → i < length list → a ≡ get_or list i a
-    → drop i list ≡ a ∷ drop (i + 1) list
-here list i a lt at = drop_more list i a lt ∙ ap (λ b. b ∷ drop (i + 1) list) (sym at)
-
 -- if those are, the one there and those behind it are
 apart : (list : List NewAssertion) (i : ℕ) (a : NewAssertion) → i < length list → a ≡ get_or list i a
     → AllByRecursion HasPayload (drop i list) → HasPayload a × AllByRecursion HasPayload (drop (i + 1) list)
-apart list i a lt at all = subst (AllByRecursion HasPayload) (here list i a lt at) all
+apart list i a lt at all = subst (AllByRecursion HasPayload) (drop_first list i a lt at) all
 
 -- where a new assertion and those behind it have their payloads, all from it on have
 together : (list : List NewAssertion) (i : ℕ) (a : NewAssertion) → i < length list → a ≡ get_or list i a
     → HasPayload a → AllByRecursion HasPayload (drop (i + 1) list) → AllByRecursion HasPayload (drop i list)
-together list i a lt at has rest = subst (AllByRecursion HasPayload) (sym (here list i a lt at)) (has, rest)
+together list i a lt at has rest = subst (AllByRecursion HasPayload) (sym (drop_first list i a lt at)) (has, rest)
 
 -- one more is
 pub all_next : (list : List NewAssertion) (i : ℕ) (a : NewAssertion) (t : Bool) → i < length list → a ≡ get_or list i a
@@ -48,8 +43,10 @@ not_all list i a t lt at so_far told none = (
 )
 
 -- all are
-pub all_done : (list : List NewAssertion) → AllFrom list (length list) → (true ≡ true) ↔ AllByRecursion HasPayload list
-all_done list so_far = (λ e. so_far.1 (subst (AllByRecursion HasPayload) (sym (drop-length list)) tt), λ all. refl)
+pub all_done : (list : List NewAssertion) (i : ℕ) → length list ≤ i → AllFrom list i
+    → (true ≡ true) ↔ AllByRecursion HasPayload list
+all_done list i end so_far =
+    (λ e. so_far.1 (subst (AllByRecursion HasPayload) (sym (drop_all i list end)) tt), λ all. refl)
 
 -- ---- what is told of an object
 

@@ -1,5 +1,5 @@
 -- A definition that a file is keeps what is asked of its fields.
-use Rattle.std.proofs.Common.{◌≡◌, ℕ, Bool, true, false, not, cond, List, [], ◌∷◌, length, codes, Option, Some, None, option_and_then, Result, Ok, Err, nat_le, nat_lt, ◌&&◌, refl, sym, ap, subst, ◌∙◌, if◌then◌else◌}
+use Rattle.std.proofs.Common.{◌≡◌, ℕ, Bool, true, false, cond, List, [], ◌∷◌, length, codes, Option, Some, None, option_and_then, Result, Ok, Err, nat_le, nat_lt, ◌&&◌, refl, sym, ap, subst, ◌∙◌, if◌then◌else◌}
 use Rattle.std.specs.List.{AllByRecursion}
 use Rattle.std.proofs.lemmas.Bool.{and_parts, leb-true}
 use Rattle.serde_json.specs.Data.{Data, Items, no_items, item}
@@ -15,6 +15,7 @@ use Rattle.c2_definition.specs.Json.{kept, object_of, has_keys, text_at, number_
 use Rattle.c2_definition.specs.DefinitionFile.{least_reserve, most_protected, most_reserve, is_field, is_filled, is_manifest_label, is_new_label, is_assertion_field, payload_of, label_in, filled_at, hex_at}
 use Rattle.c2_definition.specs.DefinitionFile.{protected_in, reserve_in, redactions_in, alg_in, assertion_from, assertion_of, labels_differ, assertions_in, HavePayloads, fields_of, definition_of, IsDefinition, IsWellFormed}
 use Rattle.c2_spec.proofs.CborShared.{required}
+use Rattle.c2_lemmas.proofs.Results.{past_test}
 
 -- ---- what is there
 
@@ -87,17 +88,12 @@ told_list v false list e = absurd (cc (e))
 
 -- ---- the definition
 
--- of an object no key of which is another, the fields decide
-by_fields : (keys : Bool) (r : Result Definition DefinitionField) (d : Definition)
-    → (if not keys then Err field.Other else r) ≡ Ok d → r ≡ Ok d
-by_fields true r d h = h
-by_fields false r d h = absurd (cc (h))
-
 -- a definition that an object is, is well formed
 of_object : (v : Data) (payloads : Bool) (d : Definition) → (payloads ≡ true → HavePayloads v)
     → definition_of payloads v ≡ Ok d → IsWellFormed d
 of_object v payloads d told h =
-    let label = required field.Label (label_in v) _ d (by_fields (has_keys is_field v) (fields_of payloads v) d h) in
+    let label = required field.Label (label_in v) _ d
+    (past_test (has_keys is_field v) field.Other (fields_of payloads v) d h) in
     let instance = required field.InstanceId (filled_at (codes "instance_id") v) _ d label.2 in
     let generator = required field.Generator (filled_at (codes "generator") v) _ d instance.2 in
     let title = required field.Title (optional_text_at (codes "title") v) _ d generator.2 in

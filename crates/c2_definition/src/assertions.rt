@@ -67,7 +67,6 @@ fn assertion_of(alloc: Global, value: &Value) -> Result<Option<NewAssertion>, No
     Ok(Some(NewAssertion { label, kind, bytes }))
 }
 
-#[tactic(auto, using(crate::proofs::Each::each_next, crate::proofs::Each::each_stops, crate::proofs::Each::each_done))]
 // The new assertions that items are, where all are.
 fn assertions_of(alloc: Global, items: &[Value]) -> Result<Option<NewAssertions>, NoMemory>
     ensures { IfOk result (λ found. found

@@ -78,7 +78,6 @@ pub fn hex_at(alloc: Global, value: &Value, key: &str) -> Result<Option<Blob>, N
     decoded(alloc, digits)
 }
 
-#[tactic(auto, using(crate::proofs::Each::each_next, crate::proofs::Each::each_stops, crate::proofs::Each::each_done))]
 // The texts that items are, where all are.
 fn texts_of(alloc: Global, items: &[Value]) -> Result<Option<Texts>, NoMemory>
     ensures { IfOk result (λ found. found ≡ json.each_of as_str (items_view items.now)) }

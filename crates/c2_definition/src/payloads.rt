@@ -35,7 +35,6 @@ fn has_payload(alloc: Global, assertion: &NewAssertion) -> Result<bool, NoMemory
     }
 }
 
-#[tactic(auto, using(crate::proofs::PayloadSteps::all_next, crate::proofs::PayloadSteps::not_all, crate::proofs::PayloadSteps::all_done))]
 // Whether those of all are.
 fn have_payloads(alloc: Global, list: &[NewAssertion]) -> Result<bool, NoMemory>
     ensures { IfOk result (λ yes. (yes ≡ true) ↔ AllByRecursion file.HasPayload list.now) }

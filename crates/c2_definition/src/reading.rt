@@ -1,19 +1,21 @@
 // Reading a definition file.
-ghost use Rattle.std.specs.Prelude.{◌≡◌, ◌↔◌, Bool, true, option_map, IfOk, Result};
+ghost use Rattle.std.specs.Prelude.{◌≡◌, ◌↔◌, Bool, true, option_map, Err, IfErr, IfOk, Result};
 ghost use Rattle.serde_json.specs.View.{view};
 ghost use Rattle.c2_definition.specs.Json.{object_of};
 ghost use Rattle.c2_definition.specs.DefinitionFile as file;
 ghost use Rattle.c2_definition.specs.DefinitionFile.{HavePayloads, definition_of, IsDefinition, Agrees};
+ghost use Rattle.c2_definition.specs.Stages.{AreLast, Passes, TellsObject, whole};
+ghost use Rattle.c2_definition.specs.declared.fields.FirstFields.{FirstFields as AnyFirst};
 ghost use Rattle.c2_definition.specs.declared.types.Definition.{Definition as AnyDefinition};
 ghost use Rattle.c2_definition.specs.declared.types.DefinitionField.{DefinitionField as AnyField};
 
 use crate::error::DefinitionError;
-use crate::fields::first_fields;
+use crate::fields::{FirstFields, first_fields};
 use crate::members::optional_texts_at;
 use crate::payloads::whole_assertions;
-use crate::types::{Definition, DefinitionField};
-use c2_base::NoMemory;
+use crate::types::{Definition, DefinitionField, NewAssertions};
 use c2_base::limits::MAX_INPUT_LEN;
+use c2_base::{NoMemory, Texts};
 use c2_hash::{Alg, alg_of};
 use serde_json::Value;
 use std::alloc::Global;
@@ -29,12 +31,22 @@ fn alg_in(value: &Value) -> Option<Alg>
     alg_of(name)
 }
 
-// The definition that an object is, or its first field that is refused.
-fn definition_of(alloc: Global, value: &Value) -> Result<Definition, DefinitionError>
-    ensures { (payloads : Bool) → (payloads ≡ true) ↔ HavePayloads (view value.now)
-        → Agrees (definition_of payloads (view value.now)) result }
+// What the fields from the assertions on say.
+#[derive(Drop)]
+struct LastFields {
+    assertions: NewAssertions,
+    redact: Texts,
+    alg: Alg,
+}
+
+// The fields of an object from its assertions on, or the first of them that is refused.
+fn last_fields(alloc: Global, value: &Value) -> Result<LastFields, DefinitionError>
+    ensures passes { (payloads : Bool) → TellsObject payloads (view value.now)
+        → IfOk result (AreLast payloads (view value.now)) }
+    ensures refuses { (payloads : Bool) (first : AnyFirst) → TellsObject payloads (view value.now)
+        → Passes (view value.now) first
+        → IfErr result (λ e. Agrees (definition_of payloads (view value.now)) (Err e)) }
 {
-    let first = first_fields(alloc, value)?;
     let Some(assertions) = whole_assertions(alloc, value)? else {
         return Err(DefinitionError::BadDefinition(DefinitionField::Assertions));
     };
@@ -44,17 +56,38 @@ fn definition_of(alloc: Global, value: &Value) -> Result<Definition, DefinitionE
     let Some(alg) = alg_in(value) else {
         return Err(DefinitionError::BadDefinition(DefinitionField::Alg));
     };
-    Ok(Definition {
+    Ok(LastFields {
+        assertions,
+        redact,
+        alg,
+    })
+}
+
+// The definition of these fields.
+fn whole(first: FirstFields, last: LastFields) -> Definition
+    ensures { result ≡ whole first last }
+{
+    Definition {
         label: first.label,
         instance_id: first.instance_id,
         generator: first.generator,
         title: first.title,
         protected: first.protected,
         reserve: first.reserve,
-        assertions,
-        redact,
-        alg,
-    })
+        assertions: last.assertions,
+        redact: last.redact,
+        alg: last.alg,
+    }
+}
+
+// The definition that an object is, or its first field that is refused.
+fn definition_of(alloc: Global, value: &Value) -> Result<Definition, DefinitionError>
+    ensures { (payloads : Bool) → (payloads ≡ true) ↔ HavePayloads (view value.now)
+        → Agrees (definition_of payloads (view value.now)) result }
+{
+    let first = first_fields(alloc, value)?;
+    let last = last_fields(alloc, value)?;
+    Ok(whole(first, last))
 }
 
 // The object that bytes are; None where they are none.

@@ -1,5 +1,5 @@
 -- The item of a binding, and the media that it binds.
-use Rattle.std.proofs.Common.{◌≡◌, ℕ, true, false, List, length, Option, Some, None, Result, option_and_then, refl, sym, ap, ◌∙◌, subst}
+use Rattle.std.proofs.Common.{◌≡◌, ℕ, true, false, List, length, Option, Some, Result, option_and_then, sym, ap, ◌∙◌, subst}
 use Rattle.c2_spec.specs.C2pa.Assertion.{data_hash_of}
 use Rattle.c2_spec.specs.Cbor.Item.{Item}
 use Rattle.c2_spec.specs.declared.assertion.FieldError.{FieldError}
@@ -12,7 +12,7 @@ use Rattle.c2_hard_binding.specs.Bindings.{is_bmff_kind, item_with}
 use Rattle.c2_opening.specs.Media.{IsMediaOf}
 use Rattle.c2_container.specs.declared.types.Container.{Container}
 use Rattle.c2_container.specs.declared.types.Container.TheVariants.{Jpeg, Bmff}
-use Rattle.c2_cbor_spec.proofs.PlainBack.{one_item}
+use Rattle.c2_rules.proofs.OneReading.{one_item_of}
 
 -- media have the file's bytes
 pub media_bytes : (file : List ℕ) (c : Container) (m : Media) → IsMediaOf file c m → m.bytes ≡ file
@@ -47,16 +47,6 @@ data_item media kinds.Ordinary v b is h = h
 payload_is : (r : Reading) (label : List ℕ) → binding_label r ≡ Some label → binding_payload r ≡ item_with r label
 payload_is r label is =
     ap (λ (o : Option (List ℕ)). option_and_then (λ (b : ReadBox). b.boxed.item) (option_and_then (box_with r) o)) is
-
--- a payload has one item, or none
-one_item_of : (o : Option (List ℕ)) (a b : Option Item) → IsItemOf o a → IsItemOf o b → a ≡ b
-one_item_of None None None p q = refl
-one_item_of None None (Some w) p q = absurd q
-one_item_of None (Some v) b p q = absurd p
-one_item_of (Some s) None None p q = refl
-one_item_of (Some s) None (Some w) p q = absurd (p w q)
-one_item_of (Some s) (Some v) None p q = absurd (q v p)
-one_item_of (Some s) (Some v) (Some w) p q = ap Some (one_item v w s p.spelled q.spelled)
 
 -- the item that was read is that of the binding
 pub same_item :

@@ -2,4 +2,3 @@ mod BoundLemmas
 mod FieldLemmas
 mod FirstBinding
 mod Items
-mod Texts

@@ -73,7 +73,7 @@ fn fails(
 }
 
 /// A manifest without a binding fails.
-#[tactic(auto, using(crate::proofs::Texts::nothing_after))]
+#[tactic(auto, using(c2_lemmas::proofs::Lists::nothing_after))]
 fn fails_unbound(alloc: Global, own: &ReadManifest<'_>) -> Result<Bound, ValidateError>
     ensures found { IfOk result (λ found. found ≡ Bound.Fails
         (record { code = Code.AssertionCborInvalid; uri = rules.manifest_uri own.now })) }

@@ -1,5 +1,5 @@
 -- SHA-256, SHA-384 and SHA-512 (FIPS 180-4).
-use Rattle.std.specs.Prelude.{◌≡◌, ℕ, zero, suc, ◌<◌, ◌%◌, ◌^◌, List, All, take, slice_index}
+use Rattle.std.specs.Prelude.{◌≡◌, ℕ, zero, suc, ◌<◌, ◌%◌, ◌^◌, List, All, slice_index}
 use Rattle.std.specs.Int.{w32, w64, to_be_bytes}
 use Rattle.std.proofs.lemmas.List.Elements.{All-append, All-nil, All-take, All-from_recursion}
 use Rattle.std.proofs.lemmas.Nat.{mod_below}

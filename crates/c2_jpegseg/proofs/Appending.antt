@@ -1,12 +1,11 @@
 -- One append after another.
 use Rattle.std.proofs.Common.{◌≡◌, refl, sym, ap, ◌∙◌, subst, ℕ, suc, ◌+◌, ◌-◌, ◌≤◌, Bool, List, [], ◌++◌, length, min, take, drop, Result, Ok, Err, arith, length-append}
-use Rattle.std.proofs.Math.Seq.{take-append-add}
-use Rattle.std.proofs.lemmas.List.{append_assoc, append-nil, take-append-le, take_all, take-take, length-take, drop_min}
+use Rattle.std.proofs.lemmas.List.{append_assoc, append-nil, take_all, take-take, length-take, drop_min}
 use Rattle.std.specs.declared.option.Option.{Option}
 use Rattle.std.specs.declared.option.Option.TheVariants.{Some, None}
 use Rattle.c2_base.specs.declared.outside.Failed.{Failed}
 use Rattle.c2_base.specs.Causes.{Rose}
-use Rattle.c2_base.specs.Sink.{then_written, spare_less, TakesPrefix, OkWithinSpare}
+use Rattle.c2_base.specs.Sink.{then_written, spare_less, OkWithinSpare}
 use Rattle.std.specs.Int.{w16, to_be_bytes}
 use Rattle.c2_spec.specs.declared.markers.TheConstants.{APP11}
 use Rattle.c2_spec.specs.Jpeg.Segments.{marker_bytes, segment_bytes}
@@ -14,39 +13,7 @@ use Rattle.c2_spec.specs.Jpeg.Writing.{packet_payload, packet_segment, packets_f
 use Rattle.c2_spec.specs.declared.packets.TheConstants.{PACKET_BODY_LEN}
 use Rattle.std.specs.List.{flat_map}
 use Rattle.c2_jpegseg.specs.Writing.{IsWriting, packet_head}
-use Rattle.c2_base.proofs.Written.{appended_twice, spare_less_two}
-
--- a prefix of the first list is one of both
-prefix-front : {K : Type 0} (written : K → Option (List ℕ)) (spare : K → Option ℕ) (front back : List ℕ) (old new : K)
-    → TakesPrefix written spare front old new → TakesPrefix written spare (front ++ back) old new
-prefix-front written spare front back old new h = record {
-  count = h.count;
-  in_piece = omega (arith, h.in_piece, length-append front back);
-  prefix = h.prefix ∙ ap (λ p. then_written (written old) p) (sym (take-append-le h.count front back h.in_piece));
-  less = h.less;
-}
-
--- the first list was appended, and then a prefix of the second
-prefix-back : {K : Type 0} (written : K → Option (List ℕ)) (spare : K → Option ℕ) (front back : List ℕ) (old mid new : K)
-    → written mid ≡ then_written (written old) front → spare mid ≡ spare_less (spare old) (length front)
-    → TakesPrefix written spare back mid new → TakesPrefix written spare (front ++ back) old new
-prefix-back written spare front back old mid new all less h = record {
-  count = length front + h.count;
-  in_piece = omega (arith, h.in_piece, length-append front back);
-  prefix =
-      h.prefix ∙ ap (λ w. then_written w (take h.count back)) all
-      ∙ appended_twice (written old) front (take h.count back)
-      ∙ ap (λ p. then_written (written old) p) (sym (take-append-add front back h.count));
-  less = h.less ∙ ap (λ s. spare_less s h.count) less ∙ spare_less_two (spare old) (length front) h.count;
-}
-
--- what is within a spare leaves room for the rest
-within-back : {T E : Type 0} (old : Option ℕ) (m n : ℕ) (r : Result T E) → OkWithinSpare (spare_less old m) n r
-    → OkWithinSpare old (m + n) r
-within-back None m n r h s is fits = absurd (cc (is))
-within-back (Some t) m n r h s is fits =
-    let same : t ≡ s = cc (is) in
-    h (t - m) refl (omega (arith, same, fits))
+use Rattle.c2_base.proofs.Written.{appended_twice, prefix-back, prefix-front, spare_less_two, within-back}
 
 -- what was appended of a list, with some answer, was appended of an equal list with an equal answer
 pub same : {K T E : Type 0} (written : K → Option (List ℕ)) (spare : K → Option ℕ) (finished : K → Bool) (faults : K → ℕ) (xs ys : List ℕ) (old new : K) (r q : Result T E)

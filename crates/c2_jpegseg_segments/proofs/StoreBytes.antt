@@ -1,6 +1,5 @@
 -- What holds of each byte of a file holds of each byte of its store.
-use Rattle.std.proofs.Common.{◌≡◌, ℕ, ◌+◌, ◌^◌, ◌<◌, true, false, List, [], ◌∷◌, ◌++◌, length, take, drop, sym, ap, subst}
-use Rattle.std.proofs.lemmas.List.{take-append-drop}
+use Rattle.std.proofs.Common.{◌≡◌, ℕ, ◌+◌, ◌^◌, ◌<◌, true, false, List, [], ◌∷◌, ◌++◌, length, drop, sym, ap, subst}
 use Rattle.std.proofs.lemmas.List.Elements.{recursion_from_All, All-from_recursion, All-contains_itself}
 use Rattle.std.specs.Int.{w16, to_be_bytes}
 use Rattle.std.specs.List.{All, AllByRecursion, Contains, flat_map}
@@ -11,6 +10,7 @@ use Rattle.c2_jpegseg_segments.proofs.Markers.{spelled_sized}
 use borrow.Author.Tests.{eqb-true}
 use Rattle.c2_lemmas.proofs.Bools.{both_true}
 use Rattle.c2_lemmas.proofs.Each.{each_append, each_back, each_front}
+use Rattle.c2_lemmas.proofs.Parts.{each_drop, each_take}
 
 -- what holds of each element of a list holds of those of each part
 flat-each : {X : Type 0} (P : ℕ → Type 0) (f : X → List ℕ) (xs : List X) → AllByRecursion P (flat_map f xs)
@@ -31,14 +31,6 @@ each-both : {X : Type 0} (P Q R : X → Type 0) (xs : List X) → ((x : X) → P
 each-both P Q R [] f h k = tt
 each-both P Q R (x ∷ xs) f h k = (f x h.0 k.0, each-both P Q R xs f h.1 k.1)
 
--- what holds of each element of a list holds of those of its first part, and of the rest
-each-take : (P : ℕ → Type 0) (n : ℕ) (xs : List ℕ) → AllByRecursion P xs → AllByRecursion P (take n xs)
-each-take P n xs h = each_front P (take n xs) (drop n xs) (subst (AllByRecursion P) (sym (take-append-drop n xs)) h)
-
--- (the same of the rest)
-each-drop : (P : ℕ → Type 0) (n : ℕ) (xs : List ℕ) → AllByRecursion P xs → AllByRecursion P (drop n xs)
-each-drop P n xs h = each_back P (take n xs) (drop n xs) (subst (AllByRecursion P) (sym (take-append-drop n xs)) h)
-
 -- a packet's marker has a length
 packet_sized : (s : Segment) → is_packet s ≡ true → is_alone s.marker ≡ false
 packet_sized s h =
@@ -57,14 +49,14 @@ packet_payload P s h packet =
 packet_header : (P : ℕ → Type 0) (s : Segment) → AllByRecursion P (segment_bytes s) → is_packet s ≡ true
     → AllByRecursion P (packet_in s).header
 packet_header P s h packet =
-    each-take P (packet_header_len (payload_lbox s.payload)) (drop 8 s.payload)
-    (each-drop P 8 s.payload (packet_payload P s h packet))
+    each_take P (packet_header_len (payload_lbox s.payload)) (drop 8 s.payload)
+    (each_drop P 8 s.payload (packet_payload P s h packet))
 
 -- (the same of its body's)
 packet_body : (P : ℕ → Type 0) (s : Segment) → AllByRecursion P (segment_bytes s) → is_packet s ≡ true
     → AllByRecursion P (packet_in s).body
 packet_body P s h packet =
-    each-drop P (8 + packet_header_len (payload_lbox s.payload)) s.payload (packet_payload P s h packet)
+    each_drop P (8 + packet_header_len (payload_lbox s.payload)) s.payload (packet_payload P s h packet)
 
 -- and of the store's
 store_each : (P : ℕ → Type 0) (file : List ℕ) (start len : ℕ) (store : List ℕ) → HasJpegStore file start len store

@@ -15,7 +15,7 @@ use Rattle.c2_spec.specs.declared.panel.VerdictRow.{VerdictRow}
 use Rattle.c2_spec.specs.Judges.Panel.{verdict_name}
 use Rattle.c2_spec.specs.Judges.VerdictFile.{IsId, IsRow, line_of, lines_of, HasRows, HasBadLine}
 use Rattle.c2_judge.specs.Reading.{NoRowLine, IsRowLine, word_said}
-use Rattle.c2_judge.proofs.Lines.{id_bytes, line_clean, front_of_line, no_row_word, lines, lines-first}
+use Rattle.c2_judge.proofs.Lines.{id_bytes, line_clean, front_of_line, no_row_word, lines-first}
 use Rattle.c2_judge.proofs.RowSteps.{lines_of-more}
 use Rattle.c2_judge.proofs.OneReading.{Front, front_of, heads, lines-has, same_rows}
 

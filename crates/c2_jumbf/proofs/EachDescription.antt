@@ -15,7 +15,8 @@ use Rattle.c2_jumbf.specs.declared.front.Front.{Front}
 use Rattle.c2_jumbf.specs.declared.fields.Fields.{Fields}
 use Rattle.c2_jumbf.specs.Heads.{IsHead}
 use Rattle.c2_jumbf.specs.Fields.{HasFields, read_label, IsPrivate, IsNoPrivate}
-use Rattle.c2_jumbf.proofs.HeadLaws.{AreBytes, bytes-take, bytes-drop, payload_size, small_4, front_box}
+use Rattle.c2_jumbf.proofs.HeadLaws.{payload_size, front_box}
+use Rattle.c2_lemmas.proofs.Bytes.{AreBytes, bytes-drop, bytes-take, small_4}
 use Rattle.c2_jumbf.proofs.FieldLemmas.{fixed_here, fields_here, not_zeros, no_label, no_id, no_digest, no_private}
 
 -- a head is good, or it fails a test

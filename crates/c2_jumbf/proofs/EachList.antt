@@ -1,7 +1,6 @@
 -- Each list of bytes is a tree, or has a first failing test.
-use Rattle.std.proofs.Common.{◌≡◌, ◌≢◌, ◌⊎◌, inl, inr, ⊎_elim, ℕ, zero, suc, ◌+◌, ◌-◌, ◌^◌, ◌<◌, ◌≤◌, Bool, true, false, List, [], ◌∷◌, ◌++◌, length, take, drop, Option, Some, None, refl, sym, ap, ◌∙◌, subst, append_assoc, arith, length-append, lit<}
+use Rattle.std.proofs.Common.{◌≡◌, ◌≢◌, ◌⊎◌, inl, inr, ⊎_elim, ℕ, zero, suc, ◌+◌, ◌-◌, ◌^◌, ◌<◌, ◌≤◌, Bool, true, false, List, [], ◌∷◌, ◌++◌, length, take, drop, Option, Some, None, refl, sym, ap, ◌∙◌, subst, append_assoc, arith, length-append}
 use Rattle.std.proofs.lemmas.List.{append-nil}
-use Rattle.std.proofs.lemmas.List.Elements.{recursion_from_All}
 use Rattle.std.proofs.lemmas.Bool.{cases_lt, cases_eq}
 use Rattle.std.proofs.lemmas.Slice.Eq.{bytes_eq-Decides}
 use Rattle.std.specs.List.{All, AllByRecursion}
@@ -16,7 +15,8 @@ use Rattle.c2_spec.specs.Jumbf.Boxes.{node}
 use Rattle.c2_spec.proofs.JumbfHeads.{good_at}
 use Rattle.c2_jumbf.specs.Flat.{ChildFault}
 use Rattle.c2_jumbf.specs.Heads.{IsHead}
-use Rattle.c2_jumbf.proofs.HeadLaws.{AreBytes, bytes-take, bytes-drop, payload_size, front_whole}
+use Rattle.c2_jumbf.proofs.HeadLaws.{payload_size, front_whole}
+use Rattle.c2_lemmas.proofs.Bytes.{AreBytes, are_bytes, bytes-drop, bytes-take}
 use Rattle.c2_jumbf.proofs.Trees.{push_tree, spelled-push, labels-push, legal-push}
 use Rattle.c2_jumbf.proofs.DistinctLabels.{distinct-push}
 use Rattle.c2_spec.proofs.JumbfBoxes.{any_least, head_size}
@@ -186,16 +186,10 @@ tree_or zero earlier depth at region less all = absurd (omega arith)
 tree_or (suc n) earlier depth at region less all = box_or earlier depth at region all
     (λ place rest fewer_bytes bytes. fill (suc (length rest)) n (depth + 1) place rest (λ labels there part l b. tree_or n labels (depth + 1) there part l b) (omega (arith, less, fewer_bytes)) bytes none rest (omega arith) tt tt refl)
 
--- members below 256 are bytes
-are_bytes : (xs : List ℕ) → AllByRecursion (λ b. b < 256) xs → AreBytes xs
-are_bytes [] h i = lit< tt
-are_bytes (x ∷ xs) h zero = h.0
-are_bytes (x ∷ xs) h (suc i) = are_bytes xs h.1 i
-
 -- Each list of bytes is a tree, or has a first failing test.
 pub each_told : (bytes : List ℕ) → All (λ b. b < 2 ^ 8) bytes
     → ((t : Tree) × SpellsTree bytes t) ⊎ ((e : JumbfError) × JumbfFault bytes e)
-each_told bytes h = go (tree_or (suc (length bytes)) [] 1 0 bytes (omega arith) (are_bytes bytes (recursion_from_All (λ b. b < 2 ^ 8) bytes h)))
+each_told bytes h = go (tree_or (suc (length bytes)) [] 1 0 bytes (omega arith) (are_bytes bytes h))
   where
     go : TreeOr [] 1 0 bytes → ((t : Tree) × SpellsTree bytes t) ⊎ ((e : JumbfError) × JumbfFault bytes e)
     go (failing e f) = inr (e, JumbfFault.inside f)

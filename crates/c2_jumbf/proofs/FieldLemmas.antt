@@ -11,7 +11,8 @@ use Rattle.c2_jumbf.specs.declared.front.Front.{Front}
 use Rattle.c2_jumbf.specs.declared.fields.Fields.{Fields}
 use Rattle.c2_jumbf.specs.Heads.{IsHead}
 use Rattle.c2_jumbf.specs.Fields.{HasFields, HasLabel, read_label, IsPrivate, IsNoPrivate}
-use Rattle.c2_jumbf.proofs.HeadLaws.{AreBytes, front_fits, front_box}
+use Rattle.c2_jumbf.proofs.HeadLaws.{front_fits, front_box}
+use Rattle.c2_lemmas.proofs.Bytes.{AreBytes}
 
 -- a field that its toggle shows is there where its bytes are
 pub fixed_here : (on : Bool) (size : ℕ) (bytes rest : List ℕ) → on ≡ true → size ≤ length bytes → rest ≡ drop size bytes

@@ -1,7 +1,6 @@
 -- The head of a box and its bytes.
-use Rattle.std.proofs.Common.{◌≡◌, ℕ, zero, suc, ◌+◌, ◌-◌, ◌^◌, ◌<◌, ◌≤◌, Bool, true, false, cond, List, [], ◌∷◌, ◌++◌, length, get_or, take, drop, None, refl, sym, ap, ◌∙◌, subst, arith, lit<}
-use Rattle.std.proofs.lemmas.List.{length-take-le, length-drop, take-take, take-append-drop, get_or-drop, take_rest}
-use Rattle.std.proofs.lemmas.Nat.{be_bytes_4, be_bytes_8}
+use Rattle.std.proofs.Common.{◌≡◌, ℕ, ◌+◌, ◌-◌, ◌^◌, ◌<◌, ◌≤◌, Bool, true, false, cond, List, ◌++◌, length, take, drop, None, refl, sym, ap, ◌∙◌, subst, arith}
+use Rattle.std.proofs.lemmas.List.{length-take-le, length-drop, take-take, take-append-drop, take_rest}
 use Rattle.std.specs.Int.{w32, w64, to_be_bytes, from_be_bytes}
 use borrow.Author.Tests.{eqb-true}
 use Rattle.c2_spec.specs.Jumbf.Tree.{head_len, boxed, head_bytes, FitsHead}
@@ -10,40 +9,8 @@ use Rattle.c2_spec.specs.Jumbf.Boxes.{told_head}
 use Rattle.c2_spec.proofs.JumbfHeads.{good_at}
 use Rattle.c2_jumbf.specs.declared.front.Front.{Front}
 use Rattle.c2_jumbf.specs.Heads.{IsHead}
+use Rattle.c2_lemmas.proofs.Bytes.{AreBytes, bytes-drop, bytes-take, small_4, spell_4, spell_8}
 use Rattle.c2_lemmas.proofs.Lists.{take_split}
-
--- each member is below 256
-abbrev pub AreBytes : List ℕ → Type 0
-AreBytes xs = (i : ℕ) → get_or xs i 0 < 256
-
--- a prefix of bytes is bytes
-pub bytes-take : (n : ℕ) (xs : List ℕ) → AreBytes xs → AreBytes (take n xs)
-bytes-take zero xs h i = lit< tt
-bytes-take (suc n) [] h i = lit< tt
-bytes-take (suc n) (x ∷ xs) h zero = h 0
-bytes-take (suc n) (x ∷ xs) h (suc i) = bytes-take n xs (λ k. h (suc k)) i
-
--- a rest of bytes is bytes
-pub bytes-drop : (n : ℕ) (xs : List ℕ) → AreBytes xs → AreBytes (drop n xs)
-bytes-drop n xs h i = rw (get_or-drop n xs i 0) (h (n + i))
-
--- a number of four bytes, and of eight
-spell_4 : (xs : List ℕ) (at n : ℕ) → AreBytes xs → at + 4 ≤ length xs → n ≡ from_be_bytes w32 (take 4 (drop at xs))
-    → to_be_bytes w32 n ≡ take 4 (drop at xs)
-spell_4 xs at n h inside e =
-    be_bytes_4 (take 4 (drop at xs)) n (length-take-le 4 (drop at xs) (omega (arith, length-drop at xs)))
-    (bytes-take 4 (drop at xs) (bytes-drop at xs h)) e
-
--- a number that was read of eight bytes is spelled by them
-spell_8 : (xs : List ℕ) (at n : ℕ) → AreBytes xs → at + 8 ≤ length xs → n ≡ from_be_bytes w64 (take 8 (drop at xs))
-    → to_be_bytes w64 n ≡ take 8 (drop at xs)
-spell_8 xs at n h inside e =
-    be_bytes_8 (take 8 (drop at xs)) n (length-take-le 8 (drop at xs) (omega (arith, length-drop at xs)))
-    (bytes-take 8 (drop at xs) (bytes-drop at xs h)) e
-
--- the number that four bytes spell is below 2^32
-pub small_4 : (xs : List ℕ) → AreBytes xs → from_be_bytes w32 xs < 2 ^ 32
-small_4 xs h = omega (arith, h 0, h 1, h 2, h 3)
 
 -- a box is as long as its header and its payload
 pub payload_size : (region : List ℕ) (h : Front) → IsHead region h → length (told_payload region) + h.header ≡ h.total

@@ -14,7 +14,8 @@ use Rattle.c2_jumbf.specs.Heads.{IsHead}
 use Rattle.c2_jumbf.specs.Fields.{HasFields, read_label}
 use Rattle.c2_jumbf.specs.Labels.{Mark, own_marks}
 use Rattle.c2_jumbf.specs.Flat.{Opened, FaultAt}
-use Rattle.c2_jumbf.proofs.HeadLaws.{AreBytes, bytes-take, bytes-drop, front_fits, front_whole, front_box}
+use Rattle.c2_jumbf.proofs.HeadLaws.{front_fits, front_whole, front_box}
+use Rattle.c2_lemmas.proofs.Bytes.{AreBytes, bytes-drop, bytes-take}
 
 -- the payload of a superbox, as the code takes it
 pub payload_is : (region : List ℕ) (h : Front) → IsHead region h

@@ -11,7 +11,8 @@ use Rattle.c2_jumbf.specs.declared.front.Front.{Front}
 use Rattle.c2_jumbf.specs.Heads.{IsHead}
 use Rattle.c2_jumbf.specs.Labels.{Mark}
 use Rattle.c2_jumbf.specs.Flat.{rows, rows_all, IsTreeAt, AreTreesIn, ChildFault, FaultAt, Opened}
-use Rattle.c2_jumbf.proofs.HeadLaws.{AreBytes, front_fits, front_whole}
+use Rattle.c2_jumbf.proofs.HeadLaws.{front_fits, front_whole}
+use Rattle.c2_lemmas.proofs.Bytes.{AreBytes}
 use Rattle.c2_jumbf.proofs.Trees.{length-rows_all}
 
 -- the length that a header states is that of the tree there

@@ -1,10 +1,10 @@
 -- The boxes of assertions, one after the other, and the references to them: one turn of a loop, and its end.
-use Rattle.std.proofs.Common.{◌≡◌, ℕ, suc, ◌+◌, ◌<◌, ◌≤◌, List, [], ◌∷◌, ◌++◌, length, get_or, drop, map, refl, sym, ap, ◌∙◌, append_assoc, append-nil, arith}
-use Rattle.std.proofs.Math.Seq.{drop-cons}
+use Rattle.std.proofs.Common.{◌≡◌, ℕ, ◌+◌, ◌<◌, ◌≤◌, List, [], ◌∷◌, ◌++◌, length, get_or, drop, map, refl, sym, ap, ◌∙◌, append_assoc, append-nil}
 use Rattle.std.proofs.lemmas.List.{drop_all, map-append}
 use Rattle.c2_spec.specs.Jumbf.Tree.{tree_bytes, trees_bytes}
 use Rattle.c2_definition.specs.declared.types.NewAssertion.{NewAssertion}
 use Rattle.c2_new_file_spec.specs.Store.{assertion_box, assertion_boxes}
+use Rattle.c2_lemmas.proofs.Lists.{drop_first}
 
 -- the boxes of two lists, one after the other
 pub boxes_over : (xs ys : List NewAssertion)
@@ -14,13 +14,6 @@ boxes_over (x ∷ xs) ys =
     append_assoc (tree_bytes (assertion_box x)) (trees_bytes (assertion_boxes xs)) (trees_bytes (assertion_boxes ys))
     ∙ ap (λ (b : List ℕ). tree_bytes (assertion_box x) ++ b) (boxes_over xs ys)
 
--- what is left of a list from an index on
-left_at : {A : Type 0} (all : List A) (i : ℕ) (a : A) → i < length all → a ≡ get_or all i a
-    → drop i all ≡ a ∷ drop (i + 1) all
-left_at all i a lt is =
-    let s : suc i ≡ i + 1 = omega arith in
-    drop-cons all i a lt ∙ ap (λ x. x ∷ drop (suc i) all) (sym is) ∙ ap (λ n. a ∷ drop n all) s
-
 -- with the boxes that are left there are all, after a box as before it
 pub boxes_step : (all : List NewAssertion) (i : ℕ) (a : NewAssertion) (before after whole : List ℕ) → i < length all
     → a ≡ get_or all i a → after ≡ before ++ tree_bytes (assertion_box a)
@@ -29,7 +22,7 @@ pub boxes_step : (all : List NewAssertion) (i : ℕ) (a : NewAssertion) (before 
 boxes_step all i a before after whole lt is grown h =
     ap (λ (x : List ℕ). x ++ trees_bytes (assertion_boxes (drop (i + 1) all))) grown
     ∙ append_assoc before (tree_bytes (assertion_box a)) (trees_bytes (assertion_boxes (drop (i + 1) all)))
-    ∙ ap (λ (d : List NewAssertion). before ++ trees_bytes (assertion_boxes d)) (sym (left_at all i a lt is)) ∙ h
+    ∙ ap (λ (d : List NewAssertion). before ++ trees_bytes (assertion_boxes d)) (sym (drop_first all i a lt is)) ∙ h
 
 -- with what is still to be made of each there is all, after a member as before it
 pub made_step : {A B : Type 0} (f : A → B) (all : List A) (i : ℕ) (a : A) (before after whole : List B) → i < length all
@@ -38,7 +31,7 @@ pub made_step : {A B : Type 0} (f : A → B) (all : List A) (i : ℕ) (a : A) (b
 made_step f all i a before after whole lt is grown h =
     ap (λ x. x ++ map f (drop (i + 1) all)) grown
     ∙ append_assoc before (f a ∷ []) (map f (drop (i + 1) all))
-    ∙ ap (λ d. before ++ map f d) (sym (left_at all i a lt is)) ∙ h
+    ∙ ap (λ d. before ++ map f d) (sym (drop_first all i a lt is)) ∙ h
 
 -- at the end no boxes are left
 pub boxes_end : (all : List NewAssertion) (i : ℕ) (out whole : List ℕ) → length all ≤ i

@@ -1,33 +1,27 @@
 -- A claim of fields that are those of a definition.
-use Rattle.std.proofs.Common.{◌≡◌, ℕ, List, Option, ap, ◌∙◌, subst}
-use Rattle.std.specs.Prelude.{Result, IfOk}
-use Rattle.c2_base.specs.declared.outside.NoMemory.{NoMemory}
-use Rattle.c2_spec.specs.Cbor.Deterministic.{deterministic}
+use Rattle.std.proofs.Common.{◌≡◌, ℕ, List, Option, ap, ◌∙◌}
 use Rattle.c2_spec.specs.declared.cbor.Ref.{Ref}
-use Rattle.c2_claim.specs.Written.{claim_item}
 use Rattle.c2_claim.specs.declared.writing.ClaimParts.{ClaimParts}
 use Rattle.c2_definition.specs.declared.types.Definition.{Definition}
 use Rattle.c2_new_file_spec.specs.Store.{claim_with, new_alg}
 use Rattle.c2_spec.specs.Digest.{alg_name}
 
 -- the parts of a claim
-abbrev parts : List ℕ → List ℕ → List ℕ → Option (List ℕ) → List ℕ → List Ref → List (List ℕ) → ClaimParts
+abbrev pub parts : List ℕ → List ℕ → List ℕ → Option (List ℕ) → List ℕ → List Ref → List (List ℕ) → ClaimParts
 parts label instance generator title alg entries redacted =
     record
     { label = label; instance = instance; generator = generator; title = title; alg = alg; entries = entries; redacted = redacted }
 
--- what is written of such fields is what is written of the definition
-pub claim_given : (d : Definition) (es : List Ref) (label instance generator : List ℕ) (title : Option (List ℕ)) (alg : List ℕ) (entries : List Ref) (redacted : List (List ℕ)) (r : Result (List ℕ) NoMemory)
+-- parts that are those of a definition
+pub claim_given : (d : Definition) (es : List Ref) (label instance generator : List ℕ) (title : Option (List ℕ)) (alg : List ℕ) (entries : List Ref) (redacted : List (List ℕ))
     → label ≡ d.label → instance ≡ d.instance_id → generator ≡ d.generator → title ≡ d.title
     → alg ≡ alg_name (new_alg d) → entries ≡ es → redacted ≡ d.redact
-    → IfOk r (λ claim. claim ≡ deterministic (claim_item (record { label = label; instance = instance; generator = generator; title = title; alg = alg; entries = entries; redacted = redacted })))
-    → IfOk r (λ claim. claim ≡ deterministic (claim_item (claim_with d es)))
-claim_given d es label instance generator title alg entries redacted r el ei eg et ea ee er h =
-    let same : parts label instance generator title alg entries redacted ≡ claim_with d es =
+    → parts label instance generator title alg entries redacted ≡ claim_with d es
+claim_given d es label instance generator title alg entries redacted el ei eg et ea ee er =
     ap (λ (x : List ℕ). parts x instance generator title alg entries redacted) el
     ∙ ap (λ (x : List ℕ). parts d.label x generator title alg entries redacted) ei
     ∙ ap (λ (x : List ℕ). parts d.label d.instance_id x title alg entries redacted) eg
     ∙ ap (λ (x : Option (List ℕ)). parts d.label d.instance_id d.generator x alg entries redacted) et
     ∙ ap (λ (x : List ℕ). parts d.label d.instance_id d.generator d.title x entries redacted) ea
-    ∙ ap (λ (x : List Ref). parts d.label d.instance_id d.generator d.title (alg_name (new_alg d)) x redacted) ee ∙ ap (λ (x : List (List ℕ)). parts d.label d.instance_id d.generator d.title (alg_name (new_alg d)) es x) er in
-    subst (λ (p : ClaimParts). IfOk r (λ claim. claim ≡ deterministic (claim_item p))) same h
+    ∙ ap (λ (x : List Ref). parts d.label d.instance_id d.generator d.title (alg_name (new_alg d)) x redacted) ee
+    ∙ ap (λ (x : List (List ℕ)). parts d.label d.instance_id d.generator d.title (alg_name (new_alg d)) es x) er

@@ -1,33 +1,26 @@
 -- The bytes of the boxes of a manifest and of a store are those of their parts, and how many they are.
-use Rattle.std.proofs.Common.{◌≡◌, ℕ, ◌+◌, List, [], ◌++◌, length, refl, sym, ap, ◌∙◌, append-nil, append_assoc, length-append, arith, codes}
-use Rattle.std.specs.Int.{w32, to_be_bytes}
+use Rattle.std.proofs.Common.{◌≡◌, ℕ, ◌+◌, false, List, ◌++◌, length, refl, sym, ap, ◌∙◌, append-nil, append_assoc, length-append, arith, codes}
+use Rattle.std.specs.Int.{w32, from_be_bytes, to_be_bytes}
 use Rattle.c2_spec.specs.C2pa.Manifest.{type_uuid}
-use Rattle.c2_spec.specs.Jumbf.Tree.{Tree, Trees, none, more, tree_bytes, trees_bytes, description_bytes}
+use Rattle.c2_spec.specs.Jumbf.Tree.{Tree, Trees, none, more, boxed, tree_bytes, trees_bytes, description_bytes}
 use Rattle.c2_spec.specs.Jumbf.Writing.{fresh_description, fresh_super, super_size}
 use Rattle.c2_spec.specs.declared.kinds.TheConstants.{JUMB}
 use Rattle.c2_definition.specs.declared.types.NewAssertion.{NewAssertion}
-use Rattle.c2_new_file_spec.specs.FreshBoxes.{fresh_box, item_box, store_box, trees_then}
+use Rattle.c2_new_file_spec.specs.FreshBoxes.{fresh_box, fresh_leaf, item_box, store_box, trees_then}
 use Rattle.c2_new_file_spec.specs.Store.{assertion_boxes, manifest_box}
 use Rattle.c2_new_file_spec.proofs.StoreSize.{one_box_len, store_len}
 use Rattle.c2_spec.proofs.Openings.{payload_size}
+use Rattle.c2_layout.specs.Parts.{contents_bytes, manifest_size}
 
--- the assertion store, the claim and the signature, one after the other, are the contents of the manifest's box
-pub manifest_bytes : (label boxes claim message a b s : List ℕ) (assertions : List NewAssertion)
-    → boxes ≡ trees_bytes (assertion_boxes assertions)
-    → a ≡ fresh_super (type_uuid (codes "c2as")) (codes "c2pa.assertions") boxes
-    → b ≡ tree_bytes (item_box (codes "c2cl") (codes "c2pa.claim.v2") claim)
-    → s ≡ tree_bytes (item_box (codes "c2cs") (codes "c2pa.signature") message)
-    → fresh_super (type_uuid (codes "c2ma")) label (a ++ (b ++ s)) ≡ tree_bytes (manifest_box label assertions claim message)
-manifest_bytes label boxes claim message a b s assertions eb ea eq es =
-    let store : Tree = fresh_box (codes "c2as") (codes "c2pa.assertions") (assertion_boxes assertions) in
-    let first : a ≡ tree_bytes store = ea ∙ ap (fresh_super (type_uuid (codes "c2as")) (codes "c2pa.assertions")) eb in
-    let last : s ≡ tree_bytes (item_box (codes "c2cs") (codes "c2pa.signature") message) ++ [] =
-    es ∙ sym (append-nil (tree_bytes (item_box (codes "c2cs") (codes "c2pa.signature") message))) in
-    ap (λ (x : List ℕ). fresh_super (type_uuid (codes "c2ma")) label (x ++ (b ++ s))) first
-    ∙ ap (λ (x : List ℕ). fresh_super (type_uuid (codes "c2ma")) label (tree_bytes store ++ (x ++ s))) eq
-    ∙ ap
-    (λ (x : List ℕ). fresh_super (type_uuid (codes "c2ma")) label (tree_bytes store ++ (tree_bytes (item_box (codes "c2cl") (codes "c2pa.claim.v2") claim) ++ x)))
-    last
+-- ---- boxes
+
+-- a superbox with one content box
+pub one_bytes : (name label kind bytes leaf uuid : List ℕ) → leaf ≡ boxed (from_be_bytes w32 kind) false bytes
+    → uuid ≡ type_uuid name
+    → fresh_super uuid label leaf ≡ tree_bytes (fresh_box name label (more (fresh_leaf kind bytes) none))
+one_bytes name label kind bytes leaf uuid is of =
+    ap (λ (u : List ℕ). fresh_super u label leaf) of
+    ∙ ap (fresh_super (type_uuid name) label) (is ∙ sym (append-nil (boxed (from_be_bytes w32 kind) false bytes)))
 
 -- a superbox takes 34 bytes, its label and its contents
 pub super_len : (uuid label contents : List ℕ) → length uuid ≡ 16
@@ -35,20 +28,59 @@ pub super_len : (uuid label contents : List ℕ) → length uuid ≡ 16
 super_len uuid label contents n =
     omega (arith, payload_size uuid label n, length-append (description_bytes (fresh_description uuid label)) contents)
 
--- what a manifest has behind its description
-pub contents_len : (boxes claim message all a b s u : List ℕ) → length u ≡ 16
-    → a ≡ fresh_super u (codes "c2pa.assertions") boxes
+-- ---- a manifest
+
+-- what was put together of the three boxes stands behind the description
+pub contents_are : (boxes claim message uuid a b s all : List ℕ) → uuid ≡ type_uuid (codes "c2as")
+    → a ≡ fresh_super uuid (codes "c2pa.assertions") boxes
     → b ≡ tree_bytes (item_box (codes "c2cl") (codes "c2pa.claim.v2") claim)
     → s ≡ tree_bytes (item_box (codes "c2cs") (codes "c2pa.signature") message) → all ≡ a ++ (b ++ s)
-    → length all ≡ 160 + length boxes + length claim + length message
-contents_len boxes claim message all a b s u n ea eb es e =
-    let la : length a ≡ 34 + 15 + length boxes = ap length ea ∙ super_len u (codes "c2pa.assertions") boxes n in
+    → all ≡ contents_bytes boxes claim message
+contents_are boxes claim message uuid a b s all eu ea eb es e =
+    let first : a ≡ fresh_super (type_uuid (codes "c2as")) (codes "c2pa.assertions") boxes =
+    ea ∙ ap (λ (u : List ℕ). fresh_super u (codes "c2pa.assertions") boxes) eu in
+    e ∙ ap (λ (x : List ℕ). x ++ (b ++ s)) first
+    ∙ ap (λ (x : List ℕ). fresh_super (type_uuid (codes "c2as")) (codes "c2pa.assertions") boxes ++ (x ++ s)) eb
+    ∙ ap
+    (λ (x : List ℕ). fresh_super (type_uuid (codes "c2as")) (codes "c2pa.assertions") boxes ++ (tree_bytes (item_box (codes "c2cl") (codes "c2pa.claim.v2") claim) ++ x))
+    es
+
+-- it is what the box of the manifest holds
+pub manifest_bytes : (label boxes claim message contents uuid : List ℕ) (assertions : List NewAssertion)
+    → boxes ≡ trees_bytes (assertion_boxes assertions)
+    → contents ≡ contents_bytes boxes claim message → uuid ≡ type_uuid (codes "c2ma")
+    → fresh_super uuid label contents ≡ tree_bytes (manifest_box label assertions claim message)
+manifest_bytes label boxes claim message contents uuid assertions eb ec eu =
+    let store : Tree = fresh_box (codes "c2as") (codes "c2pa.assertions") (assertion_boxes assertions) in
+    let claimed : List ℕ = tree_bytes (item_box (codes "c2cl") (codes "c2pa.claim.v2") claim) in
+    let signed : List ℕ = tree_bytes (item_box (codes "c2cs") (codes "c2pa.signature") message) in
+    ap (λ (u : List ℕ). fresh_super u label contents) eu ∙ ap (fresh_super (type_uuid (codes "c2ma")) label) ec
+    ∙ ap
+    (λ (x : List ℕ). fresh_super (type_uuid (codes "c2ma")) label (fresh_super (type_uuid (codes "c2as")) (codes "c2pa.assertions") x ++ (claimed ++ signed)))
+    eb
+    ∙ ap (λ (x : List ℕ). fresh_super (type_uuid (codes "c2ma")) label (tree_bytes store ++ (claimed ++ x))) (sym (append-nil signed))
+
+-- how many bytes it has
+pub contents_len : (boxes claim message : List ℕ)
+    → length (contents_bytes boxes claim message) ≡ 160 + length boxes + length claim + length message
+contents_len boxes claim message =
+    let a : List ℕ = fresh_super (type_uuid (codes "c2as")) (codes "c2pa.assertions") boxes in
+    let b : List ℕ = tree_bytes (item_box (codes "c2cl") (codes "c2pa.claim.v2") claim) in
+    let s : List ℕ = tree_bytes (item_box (codes "c2cs") (codes "c2pa.signature") message) in
+    let la : length a ≡ 34 + 15 + length boxes =
+    super_len (type_uuid (codes "c2as")) (codes "c2pa.assertions") boxes refl in
     let lb : length b ≡ 42 + 13 + length claim =
-    ap length eb ∙ one_box_len (codes "c2cl") (codes "c2pa.claim.v2") (codes "cbor") claim refl in
+    one_box_len (codes "c2cl") (codes "c2pa.claim.v2") (codes "cbor") claim refl in
     let ls : length s ≡ 42 + 14 + length message =
-    ap length es ∙ one_box_len (codes "c2cs") (codes "c2pa.signature") (codes "cbor") message refl in
-    let whole : length all ≡ length (a ++ (b ++ s)) = ap length e in
-    omega (arith, la, lb, ls, whole, length-append a (b ++ s), length-append b s)
+    one_box_len (codes "c2cs") (codes "c2pa.signature") (codes "cbor") message refl in
+    omega (arith, la, lb, ls, length-append a (b ++ s), length-append b s)
+
+-- with its description it is as large as the manifest
+pub manifest_len : (label boxes claim message contents : List ℕ) → contents ≡ contents_bytes boxes claim message
+    → super_size label contents ≡ manifest_size label boxes claim message
+manifest_len label boxes claim message contents e = omega (arith, ap length e, contents_len boxes claim message)
+
+-- ---- a store
 
 -- boxes, and one more behind them
 then_bytes : (boxes : Trees) (t : Tree) → trees_bytes boxes ++ tree_bytes t ≡ trees_bytes (trees_then boxes t)

@@ -1,12 +1,22 @@
 -- The parts of a new store, as they are made one after the other.
-use Rattle.std.specs.Prelude.{◌≡◌, ℕ, ◌+◌, ◌≤◌, List, length, map}
+use Rattle.std.specs.Prelude.{◌≡◌, ℕ, ◌+◌, ◌≤◌, List, ◌++◌, Some, codes, length, map}
 use Rattle.c2_base.specs.declared.limits.TheConstants.{MAX_STORE_LEN}
+use Rattle.c2_base.specs.declared.values.Range.{Range}
+use Rattle.c2_spec.specs.C2pa.Manifest.{type_uuid}
+use Rattle.c2_spec.specs.C2pa.Uri.{signature, whole}
+use Rattle.c2_spec.specs.Digest.{alg_name}
 use Rattle.c2_spec.specs.Jumbf.Tree.{tree_bytes, trees_bytes}
-use Rattle.c2_spec.specs.Jumbf.Writing.{IsWrittenLabel}
+use Rattle.c2_spec.specs.Jumbf.Writing.{IsWrittenLabel, fresh_super}
+use Rattle.c2_spec.specs.declared.assertion.DataHash.{DataHash}
+use Rattle.c2_spec.specs.declared.assertion.Ingredient.{Ingredient}
+use Rattle.c2_spec.specs.declared.assertion.Relationship.{Relationship}
+use Rattle.c2_spec.specs.declared.digest.Alg.{Alg}
+use Rattle.c2_assertion.specs.Written.{one_exclusion}
 use Rattle.c2_definition.specs.declared.types.NewAssertion.{NewAssertion}
 use Rattle.c2_definition.specs.declared.types.Definition.{Definition}
 use Rattle.c2_new_file_spec.specs.Built.{HasDigestLen, bound_len}
-use Rattle.c2_new_file_spec.specs.Store.{Content, NamedManifest, assertion_box, assertion_boxes, ingredient_assertion, new_alg, new_assertions, new_claim}
+use Rattle.c2_new_file_spec.specs.FreshBoxes.{item_box}
+use Rattle.c2_new_file_spec.specs.Store.{Content, NamedManifest, assertion_box, assertion_boxes, ingredient_assertion, new_alg, new_assertions, new_claim, target_ref}
 use Rattle.c2_new_file_spec.specs.Written.{AreIngredients}
 use Rattle.c2_layout.specs.declared.carried.Carried.{Carried}
 use Rattle.c2_layout.specs.declared.carried.ManifestRefs.{ManifestRefs}
@@ -41,12 +51,32 @@ pub record CanBeBound (hash : List ℕ → List ℕ) (d : Definition) (k : Carri
 abbrev pub told : List ℕ → List ℕ
 told digest = digest
 
+-- for private clauses: what is written of the ingredient that the manifest of these references is
+abbrev pub ingredient_by : Relationship → ManifestRefs → Ingredient
+ingredient_by how refs = record {
+  relationship = how;
+  manifest = Some (target_ref told refs.label whole refs.contents);
+  signature = Some (target_ref told refs.label signature refs.signed);
+}
+
+-- ---- the binding
+
+-- for private clauses: what is written of the binding to what a file has outside this range, by this digest of it
+abbrev pub binding_hash : Alg → Range → List ℕ → DataHash
+binding_hash alg range digest = one_exclusion (Some (alg_name alg)) digest range
+
 -- ---- the parts
 
 -- an assertion whose box can be written: its label may be, and the box isn't too large
 pub record CanBeBoxed (a : NewAssertion) : Type 0 where
   pub label : IsWrittenLabel a.label
   pub small : length (tree_bytes (assertion_box a)) ≤ MAX_STORE_LEN
+
+-- for private clauses: what stands in the box of a manifest behind its description, where the boxes of its assertions have these bytes
+abbrev pub contents_bytes : List ℕ → List ℕ → List ℕ → List ℕ
+contents_bytes boxes claim message =
+    fresh_super (type_uuid (codes "c2as")) (codes "c2pa.assertions") boxes
+    ++ (tree_bytes (item_box (codes "c2cl") (codes "c2pa.claim.v2") claim) ++ tree_bytes (item_box (codes "c2cs") (codes "c2pa.signature") message))
 
 -- how many bytes a manifest has: 194 beside its label, the boxes of its assertions, its claim and its message. They are the headers and
 -- descriptions of the manifest (34), of its assertion store (49), and of the boxes of its claim and of its message with the headers of

@@ -23,6 +23,21 @@ fn boxed(alloc: Global, assertion: &NewAssertion) -> Result<Blob, NoMemory>
     only_memory(write_assertion(alloc, assertion))
 }
 
+// The reference to an assertion whose box has these bytes, by the digest by this algorithm of what stands behind the box's header.
+fn entry_over<H: Hashing>(
+    alloc: Global,
+    hashing: &H,
+    alg: Alg,
+    assertion: &NewAssertion,
+    bytes: &[u8],
+) -> Result<Ref, NoMemory>
+    requires { bytes.now ≡ tree_bytes (store.assertion_box assertion.now) }
+    ensures { IfOk result (λ entry. entry ≡ store.entry_of (H.digest_of alg) assertion.now) }
+{
+    let digest = digest_of(hashing, alg, &bytes[HEAD_LEN..]);
+    own_ref(alloc, assertion.label.as_str(), digest.as_slice())
+}
+
 // Appends the box of an assertion, and the reference to it, by the digest by this algorithm of what stands behind the box's header.
 fn push_one<H: Hashing>(
     alloc: Global,
@@ -40,8 +55,7 @@ fn push_one<H: Hashing>(
 {
     let written = boxed(alloc, assertion)?;
     let bytes = written.as_slice();
-    let digest = digest_of(hashing, alg, &bytes[HEAD_LEN..]);
-    entries.push(own_ref(alloc, assertion.label.as_str(), digest.as_slice())?)?;
+    entries.push(entry_over(alloc, hashing, alg, assertion, bytes)?)?;
     boxes.extend_from_slice(bytes)?;
     Ok(())
 }

@@ -1,7 +1,9 @@
 // The assertions of ingredients, by references to the manifests that they are.
 ghost use Rattle.std.specs.Prelude.{◌≡◌, ℕ, IfOk, List};
 ghost use Rattle.c2_spec.specs.C2pa.Uri.{signature, whole};
-ghost use Rattle.c2_layout.specs.Parts.{AreRefs, told};
+ghost use Rattle.c2_spec.specs.Cbor.Deterministic.{deterministic};
+ghost use Rattle.c2_assertion.specs.Written.{ingredient_item};
+ghost use Rattle.c2_layout.specs.Parts.{AreRefs, ingredient_by, told};
 ghost use Rattle.c2_new_file_spec.specs.Store.{NamedManifest, ingredient_assertion, target_ref};
 
 use crate::binding::item_bytes;
@@ -43,6 +45,45 @@ fn signature_ref(alloc: Global, label: &str, digest: &[u8]) -> Result<Ref, NoMem
     })
 }
 
+// What is written of the ingredient that the manifest of these references is.
+fn ingredient_fields(
+    alloc: Global,
+    relationship: Relationship,
+    refs: &ManifestRefs,
+) -> Result<Ingredient, NoMemory>
+    ensures { IfOk result (λ fields. fields ≡ ingredient_by relationship refs.now) }
+{
+    let label = refs.label.as_str();
+    let manifest = manifest_ref(alloc, label, refs.contents.as_slice())?;
+    let signature = signature_ref(alloc, label, refs.signed.as_slice())?;
+    Ok(Ingredient {
+        relationship,
+        manifest: Some(manifest),
+        signature: Some(signature),
+    })
+}
+
+// The bytes that are written of these fields.
+fn fields_bytes(alloc: Global, fields: &Ingredient) -> Result<Blob, NoMemory>
+    ensures { IfOk result (λ b. b ≡ deterministic (ingredient_item fields.now)) }
+{
+    let item = write_ingredient(alloc, fields)?;
+    item_bytes(alloc, &item)
+}
+
+// The bytes of the assertion of that ingredient.
+fn ingredient_bytes(
+    alloc: Global,
+    relationship: Relationship,
+    refs: &ManifestRefs,
+) -> Result<Blob, NoMemory>
+    ensures { IfOk result (λ b. b
+        ≡ deterministic (ingredient_item (ingredient_by relationship refs.now))) }
+{
+    let fields = ingredient_fields(alloc, relationship, refs)?;
+    fields_bytes(alloc, &fields)
+}
+
 /// The assertion of an ingredient, under this label: how it relates to the new manifest, and the manifest that it is, whose digests are
 /// those of its contents as they stand in the new store.
 pub fn ingredient(
@@ -55,16 +96,10 @@ pub fn ingredient(
         → AreRefs hash p refs.now → a ≡ ingredient_assertion hash
         (record { label = label.now; relationship = relationship; of = p })) }
 {
-    let named = refs.label.as_str();
-    let fields = Ingredient {
-        relationship,
-        manifest: Some(manifest_ref(alloc, named, refs.contents.as_slice())?),
-        signature: Some(signature_ref(alloc, named, refs.signed.as_slice())?),
-    };
-    let item = write_ingredient(alloc, &fields)?;
-    let bytes = item_bytes(alloc, &item)?;
+    let bytes = ingredient_bytes(alloc, relationship, refs)?;
+    let label = Text::copied(alloc, label)?;
     Ok(NewAssertion {
-        label: Text::copied(alloc, label)?,
+        label,
         kind: Payload::Cbor,
         bytes,
     })

@@ -1,5 +1,6 @@
 -- What holds of each member of a list, and what a list contains.
-use Rattle.std.proofs.Common.{Contains, List, None, Option, Some, [], ap, ap₂, arith, get_or, length, refl, slice_get, subst, suc, zero, ℕ, ◌++◌, ◌+◌, ◌-◌, ◌<◌, ◌∙◌, ◌∷◌, ◌≡◌, ◌≢◌}
+use Rattle.std.proofs.Common.{Contains, List, None, Option, Some, [], ap, ap₂, arith, get_or, length, refl, slice_get, subst, suc, zero, ℕ, ◌++◌, ◌+◌, ◌<◌, ◌∙◌, ◌∷◌, ◌≡◌, ◌≢◌}
+use Rattle.std.proofs.lemmas.List.Elements.{All-contains, All-from_recursion}
 use Rattle.std.proofs.lemmas.Option.{get_or_from_slice_get, same_Some, slice_get-get_or, slice_get_within}
 use Rattle.std.specs.List.{AllByRecursion, AllZip}
 
@@ -75,3 +76,7 @@ zip_length R [] [] h = refl
 zip_length R [] (y ∷ ys) h = absurd h
 zip_length R (x ∷ xs) [] h = absurd h
 zip_length R (x ∷ xs) (y ∷ ys) h = ap suc (zip_length R xs ys h.1)
+
+-- what holds of all members holds of each
+pub member_of : {X : Type 0} (P : X → Type 0) (xs : List X) (x : X) → AllByRecursion P xs → Contains xs x → P x
+member_of P xs x h c = All-contains P xs x (All-from_recursion P xs h) c

@@ -1,6 +1,10 @@
 pub mod Bools
+pub mod Bytes
 pub mod Each
 pub mod Lists
+pub mod Marks
 pub mod Numbers
 pub mod Options
+pub mod Parts
 pub mod Results
+pub mod Stages

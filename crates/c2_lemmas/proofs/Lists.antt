@@ -1,14 +1,15 @@
 -- Lists: their lengths, and parts of them.
-use Rattle.std.proofs.Common.{Bool, List, Option, Some, [], ap, arith, bytes_eq, cond, drop, false, get_or, inl, inr, is_some, length, map, min, refl, slice_get, suc, sym, take, true, zero, ℕ, ⊎_elim, ◌++◌, ◌+◌, ◌-◌, ◌<◌, ◌||◌, ◌∙◌, ◌∷◌, ◌≡◌, ◌≤◌}
+use Rattle.std.proofs.Common.{Bool, List, Option, Some, [], ap, append-nil, arith, bytes_eq, cond, drop, false, get_or, inl, inr, is_some, length, map, min, position, refl, slice_get, suc, sym, take, true, zero, ℕ, ⊎_elim, ◌++◌, ◌+◌, ◌<◌, ◌||◌, ◌∙◌, ◌∷◌, ◌≡◌, ◌≤◌}
 use Rattle.std.proofs.lemmas.Bool.{cases_lt}
+use Rattle.std.proofs.lemmas.Iterator.Adapters.{position_from-zero}
 use Rattle.std.proofs.lemmas.List.{drop-take, drop_all, drop_more, take-append-drop, take-take, take_all}
 use Rattle.std.proofs.lemmas.Slice.Eq.{bytes_eq-Decides}
 use Rattle.std.specs.List.{list_any, position_from}
 
 -- from a place on a list begins with the member there
-pub drop_first : (all : List (List ℕ)) (n : ℕ) (label : List ℕ) → n < length all → label ≡ get_or all n label
-    → drop n all ≡ label ∷ drop (n + 1) all
-drop_first all n label l e = drop_more all n label l ∙ ap (λ (x : List ℕ). x ∷ drop (n + 1) all) (sym e)
+pub drop_first : {X : Type 0} (all : List X) (n : ℕ) (x : X) → n < length all → x ≡ get_or all n x
+    → drop n all ≡ x ∷ drop (n + 1) all
+drop_first {X} all n x l e = drop_more all n x l ∙ ap (λ (y : X). y ∷ drop (n + 1) all) (sym e)
 
 -- no more than all of a list is passed over
 pub drop_most : (n : ℕ) (xs : List ℕ) → drop (min n (length xs)) xs ≡ drop n xs
@@ -80,3 +81,13 @@ take_split m n xs =
     sym (take-append-drop m (take (m + n) xs))
     ∙ ap (λ ys. ys ++ drop m (take (m + n) xs)) (take-take m (m + n) xs (omega arith))
     ∙ ap (λ ys. take m xs ++ ys) (drop-take m n xs)
+
+-- a list with nothing behind it is that list
+pub nothing_after : (xs : List ℕ) → xs ++ [] ≡ xs
+nothing_after xs = append-nil xs
+
+-- the first place whose image passes a test is the first place in the mapped list that passes it
+pub position_map : {X Y : Type 0} (f : X → Y) (p : Y → Bool) (xs : List X)
+    → position p (map f xs) ≡ position (λ x. p (f x)) xs
+position_map f p xs =
+    position_from-zero p (map f xs) ∙ position_from_map f p 0 xs ∙ sym (position_from-zero (λ x. p (f x)) xs)

@@ -1,7 +1,7 @@
 -- Values that may be there or not.
 use Rattle.std.proofs.Common.{Bool, Decides, List, None, Ok, Option, Some, [], arith, cond, false, length, not, refl, slice_get, suc, sym, true, true≢false, zero, ℕ, ◌&&◌, ◌<◌, ◌∷◌, ◌≡◌}
 use Rattle.std.proofs.lemmas.Option.{same_Some}
-use Rattle.std.specs.Option.{ok_or, option_map, option_or}
+use Rattle.std.specs.Option.{ok_or, option_map, option_or, option_to_list}
 use Rattle.std.specs.declared.result.Result.{Result}
 
 -- where there is a value, it is this
@@ -58,3 +58,9 @@ pub some_at : {X : Type 0} (xs : List X) (i : ℕ) → i < length xs → (x : X)
 some_at [] i h = absurd (omega arith)
 some_at (x ∷ xs) zero h = (x, refl)
 some_at (x ∷ xs) (suc i) h = some_at xs i (omega arith)
+
+-- a list made of a value that is there isn't empty
+pub listed_some : {A B : Type 0} (f : A → B) (o : Option A) (a : A) → o ≡ Some a → option_to_list (option_map f o) ≡ []
+    → ⊥
+listed_some f None a e k = cc (e)
+listed_some f (Some b) a e k = cc (k)

@@ -15,7 +15,7 @@ use Rattle.c2_rules.specs.Readings.{Reading, question_in}
 use Rattle.c2_rules.specs.Rules.{claim_tests, rest_tests, verdict_tests}
 use Rattle.c2_rules.specs.Seen.{seen_at}
 use Rattle.c2_rules.specs.Tests.{downward}
-use Rattle.c2_new_file_spec.proofs.Conditions.{Holds, all_each}
+use Rattle.c2_rules.proofs.Conditions.{Holds, all_each}
 use Rattle.c2_new_content_spec.specs.Over.{ValidIsApproved}
 use Rattle.c2_lemmas.proofs.Each.{each_append, each_back, each_front}
 

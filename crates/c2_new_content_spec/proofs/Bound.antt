@@ -35,7 +35,7 @@ use Rattle.c2_bmff_insert_spec.specs.Laws.{HasBuiltCover}
 use Rattle.c2_new_file_spec.specs.Built.{HasDigestLen}
 use Rattle.c2_new_file_spec.specs.Store.{data_binding, range_at}
 use Rattle.c2_new_file_spec.specs.Unbound.{IsBindingMet}
-use Rattle.c2_new_file_spec.proofs.Conditions.{all_hold}
+use Rattle.c2_rules.proofs.Conditions.{all_hold}
 use Rattle.c2_new_file_spec.proofs.Texts.{name_utf8}
 use Rattle.c2_new_file_spec.proofs.WrittenItems.{IsDataHash, data_read}
 use Rattle.c2_new_file_spec.specs.Films.{new_bmff_binding, new_bmff_hash}

@@ -25,13 +25,12 @@ use Rattle.c2_rules.specs.Tests.{Test, each}
 use Rattle.c2_rules.specs.declared.parsed.Parsed.{Parsed}
 use Rattle.c2_rules.specs.declared.parsed.Parsed.TheVariants.{NoItem, Value}
 use Rattle.c2_rules.proofs.ListLemmas.{contains_cons, contains_head, contains_none, contains_tail}
-use Rattle.c2_chain_spec.proofs.Places.{member_of}
 use Rattle.c2_definition.specs.declared.types.Definition.{Definition}
 use Rattle.c2_definition.specs.declared.types.NewAssertion.{NewAssertion}
 use Rattle.c2_new_file_spec.specs.Store.{Content, NewIngredient, ingredient_assertion, new_alg, new_assertions, target_ref, written_ingredient}
 use Rattle.c2_new_file_spec.specs.Unbound.{IsKnownLabel}
 use Rattle.c2_new_file_spec.specs.Written.{AreIngredients, IsIngredientLabel, LabelsApart, written_assertion}
-use Rattle.c2_new_file_spec.proofs.Conditions.{Holds}
+use Rattle.c2_rules.proofs.Conditions.{Holds}
 use Rattle.c2_new_file_spec.proofs.Ingredients.{AreLabelled, good_label}
 use Rattle.c2_new_file_spec.proofs.Labels.{IsLabelText, new_label}
 use Rattle.c2_new_file_spec.proofs.WrittenStore.{IsNew, own_assertions}
@@ -46,7 +45,7 @@ use Rattle.c2_new_content_spec.proofs.More.{get_front, place_more}
 use Rattle.c2_new_content_spec.proofs.NewRules.{IsListed, RestHolds, Said, bindings_of, new_box, new_boxes, new_reading, new_seen}
 use Rattle.c2_new_content_spec.proofs.Plain.{boxes_append, listed_each, no_bindings, no_children, no_forms, no_ingredient, none_child, none_parent, none_read}
 use Rattle.c2_new_content_spec.proofs.Roots.{HasRoots}
-use Rattle.c2_lemmas.proofs.Each.{each_append, each_back, each_front, zip_append}
+use Rattle.c2_lemmas.proofs.Each.{each_append, each_back, each_front, member_of, zip_append}
 use Rattle.c2_lemmas.proofs.Lists.{same_bytes}
 
 -- ---- what boxes are read as

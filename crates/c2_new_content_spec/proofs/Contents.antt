@@ -1,15 +1,11 @@
 -- The new store of a content at a split: its size, what it meets by its content, and what the file meets.
-use Rattle.std.proofs.Common.{◌≡◌, inl, inr, ℕ, ◌≤◌, List, [], ◌∷◌, length, map, None, refl, sym, ap, ◌∙◌, subst, arith, lit<}
+use Rattle.std.proofs.Common.{◌≡◌, inl, inr, ℕ, ◌≤◌, List, [], ◌∷◌, length, map, refl, sym, ap, subst, arith, lit<}
 use Rattle.std.specs.List.{AllZip}
 use Rattle.c2_base.specs.declared.limits.TheConstants.{MAX_STORE_LEN}
 use Rattle.c2_base.specs.declared.values.Question.{Question}
-use Rattle.c2_spec.specs.C2pa.Manifest.{store_refusal}
 use Rattle.c2_spec.specs.Jpeg.Segments.{place_after}
-use Rattle.c2_spec.specs.Jumbf.Tree.{IsLegalTree, Tree, Trees, tree_bytes}
-use Rattle.c2_spec.specs.Located as located
-use Rattle.c2_spec.specs.Located.{Located, Opening}
+use Rattle.c2_spec.specs.Jumbf.Tree.{Tree, Trees, tree_bytes}
 use Rattle.c2_spec.specs.declared.digest.Alg.{Alg}
-use Rattle.c2_rules.specs.Opened.{IsBoxTree, IsManifestStore, IsManifestTree, IsOpened, Opens}
 use Rattle.c2_rules.specs.Readings.{AreReadings}
 use Rattle.c2_definition.specs.declared.types.NewAssertion.{NewAssertion}
 use Rattle.c2_new_file_spec.specs.Built.{HasDigestLen, StoreSizeIsFixed}
@@ -19,7 +15,7 @@ use Rattle.c2_new_file_spec.specs.Store.{Content, NewIngredient, new_alg, new_ma
 use Rattle.c2_new_file_spec.specs.Unbound.{IsKnownBinding, MeetsUnbound}
 use Rattle.c2_new_file_spec.specs.Written.{AreIngredients, CanBeCarried, CanBeWritten}
 use Rattle.c2_new_file_spec.proofs.BuiltLemmas.{packet_store}
-use Rattle.c2_new_file_spec.proofs.Conditions.{all_hold}
+use Rattle.c2_rules.proofs.Conditions.{all_hold}
 use Rattle.c2_new_file_spec.proofs.Ingredients.{no_ingredients}
 use Rattle.c2_new_file_spec.specs.Carrying.{CanStandOver, IsCarried, RedactionsPass, ValidStoreIsCarried}
 use Rattle.c2_new_content_spec.specs.Over.{SucceedingStoreMeets}
@@ -30,6 +26,7 @@ use Rattle.c2_new_content_spec.specs.Taken.{IsRoot, IsTakenFrom}
 use Rattle.c2_new_content_spec.specs.Contents.{CanPutAt, ContentFileMeets, ContentSizeIsFixed, FreshContentMeets, GatheredContentMeets, OverContentMeets, content_binding, content_len, content_question, content_size, content_store}
 use Rattle.c2_new_content_spec.specs.Meeting.{SplitFileMeets}
 use Rattle.c2_new_content_spec.specs.Splits.{CanHold, HasRoomFor, IsSplitStore, Split, binding_at, of_boxes, of_segments, split_binding, split_file, split_len, split_start, split_text}
+use Rattle.c2_rules.proofs.OpenedStore.{IsOpenedStore, opened_store}
 
 -- ---- the store at a split
 
@@ -98,36 +95,10 @@ content_meets files sizes hash c message base piece s parts older digests conten
 
 -- ---- the contents
 
--- the store that a file is opened as
-record IsOld (old : Tree) : Type 0 where
-  legal : IsLegalTree 1 old
-  accepted : store_refusal old ≡ None
-
--- two stores that are found are one tree
-here_tree : (a n b m : ℕ) (t u : Tree) → ◌≡◌ {A = Opening Tree} (located.here a n t) (located.here b m u) → t ≡ u
-here_tree a n b m t u e = cc (e)
-
--- the box tree that a media file is opened with is legal and a store
-old_is : (media : List ℕ) (start len : ℕ) (old : Tree) → IsOpened media (located.here start len old) → IsOld old
-old_is media start len old h = by_place h.0 h.2
-  where
-    by_tree : (at n : ℕ) (store : List ℕ) (what : Opening Tree) → IsBoxTree at n store what
-        → Opens IsManifestTree what (located.here start len old) → IsOld old
-    by_tree at n store (located.refused reason number) g e = absurd (cc (e))
-    by_tree at n store located.absent g e = absurd g
-    by_tree at n store (located.here b m t) g e =
-        let same : old ≡ t = here_tree start len b m old t e.1 in
-        record { legal = subst (IsLegalTree 1) (sym same) g.0.legal; accepted = ap store_refusal same ∙ e.0 }
-
-    by_place : (l : Located) → Opens IsManifestStore l (located.here start len old) → IsOld old
-    by_place (located.refused reason number) e = absurd (cc (e))
-    by_place located.absent e = absurd (cc (e))
-    by_place (located.here at n store) e = by_tree at n store e.0 e.1 e.2
-
 -- over a valid media file with a store
 pub over_content : ValidStoreIsCarried → SucceedingStoreMeets → OverContentMeets
 over_content carries succeeding hash said media start len old r d c message parts can w is spells =
-    let o : IsOld old = old_is media start len old can.opened in
+    let o : IsOpenedStore old = opened_store media start len old can.opened in
     let over : CanStandOver hash said d old r = record {
       legal = o.legal;
       store = o.accepted;

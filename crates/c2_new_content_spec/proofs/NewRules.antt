@@ -32,7 +32,7 @@ use Rattle.c2_definition.specs.declared.types.NewAssertion.{NewAssertion}
 use Rattle.c2_new_file_spec.specs.FreshBoxes.{contents_of}
 use Rattle.c2_new_file_spec.specs.Store.{entry_of, assertion_box}
 use Rattle.c2_new_file_spec.specs.Written.{written_assertion, written_manifest}
-use Rattle.c2_new_file_spec.proofs.Conditions.{Holds}
+use Rattle.c2_rules.proofs.Conditions.{Holds}
 use Rattle.c2_new_file_spec.proofs.Labels.{IsLabelText}
 use Rattle.c2_new_file_spec.proofs.WrittenStore.{DiffersFrom, AreDifferent}
 use Rattle.c2_new_content_spec.proofs.Uris.{own_assertion_read, signature_read}

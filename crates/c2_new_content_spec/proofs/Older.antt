@@ -14,7 +14,7 @@ use Rattle.c2_rules.specs.Rules.{unjudged_tests, lists_label}
 use Rattle.c2_rules.specs.Seen.{later, whole, seen_at, standing_of, place_standing, earlier_standing, child_standing, signature_contents}
 use Rattle.c2_chain_spec.specs.Older.{Alike, Loses, StaysAlike, has_signature, is_kept, thinned}
 use Rattle.c2_chain_spec.specs.Rooted.{HoldBy, is_reached_from, lists_passing, place_standing_by, redacted_by, seen_by, standing_by, touched_by}
-use Rattle.c2_new_file_spec.proofs.Conditions.{Holds, all_each, all_hold}
+use Rattle.c2_rules.proofs.Conditions.{Holds, all_each, all_hold}
 use Rattle.c2_new_file_spec.specs.Less.{CanRedactBy, SignsTaken}
 use Rattle.c2_new_file_spec.specs.Redacting.{takes_out}
 use Rattle.c2_new_file_spec.proofs.Places.{LessAt, less_at, less_len}

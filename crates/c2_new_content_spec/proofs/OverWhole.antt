@@ -12,7 +12,6 @@ use Rattle.c2_rules.specs.CheckList.{questions, questions_of}
 use Rattle.c2_rules.specs.Readings.{Reading}
 use Rattle.c2_rules.specs.Tests.{downward}
 use Rattle.c2_chain_spec.specs.Rooted.{ReadsKinds, StoreIsRooted, last_roots}
-use Rattle.c2_chain_spec.proofs.Places.{member_of}
 use Rattle.c2_chain_spec.proofs.Rooting.{last_active}
 use Rattle.c2_new_file_spec.specs.Store.{Content, NamedManifest, NewIngredient, new_alg, new_claim, new_store, parent_ingredient}
 use Rattle.c2_new_file_spec.specs.Unbound.{MeetsUnbound}
@@ -25,7 +24,7 @@ use Rattle.c2_new_file_spec.proofs.Stores.{store_differs}
 use Rattle.c2_new_content_spec.specs.Gathered.{GatheredStoreMeets, IsOverRoots}
 use Rattle.c2_new_content_spec.specs.Taken.{IsRoot, IsTakenFrom, questions_from}
 use Rattle.c2_new_content_spec.specs.Over.{SucceedingStoreMeets}
-use Rattle.c2_lemmas.proofs.Each.{contains_at}
+use Rattle.c2_lemmas.proofs.Each.{contains_at, member_of}
 
 -- ---- what is taken over
 

@@ -1,6 +1,5 @@
 -- The place of a file is a split.
-use Rattle.std.specs.Prelude.{◌==◌}
-use Rattle.std.proofs.Common.{◌≡◌, ℕ, ◌<◌, Bool, true, false, cond, List, [], ◌∷◌, ◌++◌, length, Option, Some, None, refl, sym, ap, ◌∙◌, subst, arith, bytes_eq}
+use Rattle.std.proofs.Common.{◌≡◌, ℕ, ◌<◌, Bool, false, cond, List, [], ◌∷◌, ◌++◌, length, Option, Some, None, refl, sym, ap, ◌∙◌, subst, arith, bytes_eq}
 use Rattle.std.specs.List.{AllByRecursion}
 use Rattle.c2_spec.specs.Bmff.Boxes.{Box, HasRoots, IsSizedBox, begins_bmff, most_roots}
 use Rattle.c2_spec.specs.Bmff.Writing.{before_mfra, is_mfra, last_mfra, mfra_kind}
@@ -8,8 +7,7 @@ use Rattle.c2_spec.specs.Jpeg.Places.{IsOfSegments}
 use Rattle.c2_spec.specs.Jpeg.Segments.{Segment}
 use Rattle.c2_spec.specs.Jpeg.Store.{NoneBegins}
 use Rattle.c2_spec.specs.Jpeg.Writing.{IsNumberOf, is_taken, leading_app0}
-use Rattle.c2_spec.specs.declared.markers.TheConstants.{APP0}
-use Rattle.c2_new_file_spec.proofs.Put.{taken_back}
+use Rattle.c2_new_file_spec.proofs.Put.{app0_split, taken_back}
 use Rattle.c2_new_file_spec.specs.Films.{AreOthers}
 use Rattle.c2_new_file_spec.specs.Places.{in_boxes, in_segments}
 use Rattle.c2_new_content_spec.specs.Instances.{PlaceIsSplit, behind_app0}
@@ -18,17 +16,6 @@ use Rattle.c2_new_content_spec.proofs.Texts.{text_before_mfra}
 use Rattle.c2_bmff_insert_spec.proofs.Placing.{before_sized, first_is, parts_are}
 
 -- ---- segments
-
--- where both parts of a list are all of it, they are so with one more segment in front
-app0_step : (b : Bool) (s : Segment) (ss : List Segment) → leading_app0 ss ++ behind_app0 ss ≡ ss
-    → cond b (s ∷ leading_app0 ss) [] ++ cond b (behind_app0 ss) (s ∷ ss) ≡ s ∷ ss
-app0_step true s ss e = ap (λ (x : List Segment). s ∷ x) e
-app0_step false s ss e = refl
-
--- the leading APP0 segments and those behind them are all
-app0_parts : (ss : List Segment) → leading_app0 ss ++ behind_app0 ss ≡ ss
-app0_parts [] = refl
-app0_parts (s ∷ ss) = app0_step (s.marker == APP0) s ss (app0_parts ss)
 
 -- packets before some of the segments can have the number that is free among all
 numbered : (segments xs ys : List Segment) (number : Option ℕ) → xs ++ ys ≡ segments → IsNumberOf segments number
@@ -60,7 +47,7 @@ sized_closed (b ∷ bs) h = (h.0.sized, sized_closed bs h.1)
 -- the place splits the file
 pub place_split : PlaceIsSplit
 place_split base (in_segments segments number) h =
-    let parts : leading_app0 segments ++ behind_app0 segments ≡ segments = app0_parts segments in
+    let parts : leading_app0 segments ++ behind_app0 segments ≡ segments = app0_split segments in
     record {
       split =
           (subst (IsOfSegments base) (sym parts) h.is.1, numbered segments (leading_app0 segments) (behind_app0 segments) number parts h.is.2);

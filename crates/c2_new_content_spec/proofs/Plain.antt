@@ -22,7 +22,7 @@ use Rattle.c2_rules.specs.declared.parsed.Parsed.TheVariants.{NoItem}
 use Rattle.c2_definition.specs.DefinitionFile as file
 use Rattle.c2_definition.specs.declared.types.NewAssertion.{NewAssertion}
 use Rattle.c2_new_file_spec.specs.Written.{IsText}
-use Rattle.c2_new_file_spec.proofs.Conditions.{Holds}
+use Rattle.c2_rules.proofs.Conditions.{Holds}
 use Rattle.c2_new_file_spec.proofs.Labels.{new_label}
 use Rattle.c2_new_file_spec.proofs.WrittenStore.{IsNew}
 use Rattle.c2_new_content_spec.proofs.Claims.{IsGoodRef}

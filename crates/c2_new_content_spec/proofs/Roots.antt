@@ -6,25 +6,14 @@ use Rattle.std.proofs.lemmas.Bool.{and_left, and_right, eq-eqb, ne_eqb, or_from,
 use Rattle.std.proofs.lemmas.Option.{same_Some}
 use Rattle.c2_rules.specs.Chains.{any_below, child_of, children, is_active, is_reached, is_redacted, label_in, reaches, reaches_within, redacts}
 use Rattle.c2_rules.specs.Readings.{Reading, redactions_in}
+use Rattle.c2_rules.proofs.ReachLemmas.{steps_same}
 use Rattle.c2_chain_spec.specs.Older.{thinned}
 use Rattle.c2_chain_spec.specs.Rooted.{is_reached_from, redacted_by}
 use Rattle.c2_new_file_spec.specs.Less.{AreLess}
 use Rattle.c2_new_file_spec.specs.Redacting.{takes_out}
 use Rattle.c2_new_file_spec.proofs.Places.{less_at, less_len}
 use Rattle.c2_new_content_spec.proofs.Less.{Quiet, both_reach}
-use Rattle.c2_new_content_spec.proofs.More.{any_same, children_below, children_last, get_front, get_last, len_more, reach_earlier}
-
--- ---- steps
-
--- as many steps as are enough say the same as any more
-steps_same : (rs : List Reading) (k j n m : ℕ) → n < k → n < j → reaches_within rs k n m ≡ reaches_within rs j n m
-steps_same rs zero j n m a b = absurd (omega arith)
-steps_same rs (suc k) zero n m a b = absurd (omega arith)
-steps_same rs (suc k) (suc j) n m a b =
-    any_same (λ c. nat_eq c m || reaches_within rs k c m) (λ c. nat_eq c m || reaches_within rs j c m) (λ c. c < n)
-    (children rs n)
-    (λ c lt. ap (λ b. nat_eq c m || b) (steps_same rs k j c m (omega (arith, a, lt)) (omega (arith, b, lt))))
-    (children_below rs n)
+use Rattle.c2_new_content_spec.proofs.More.{any_same, children_last, get_front, get_last, len_more, reach_earlier}
 
 -- ---- the new manifest
 

@@ -1,9 +1,8 @@
 -- The box of a store put in between root boxes.
-use Rattle.std.proofs.Common.{◌≡◌, ℕ, ◌+◌, ◌^◌, ◌<◌, ◌≤◌, true, List, [], ◌∷◌, ◌++◌, length, take, refl, sym, ap, ◌∙◌, subst, arith}
-use Rattle.std.proofs.lemmas.Bool.{lt-ltb}
+use Rattle.std.proofs.Common.{◌≡◌, ℕ, ◌+◌, ◌<◌, true, List, [], ◌∷◌, ◌++◌, length, take, refl, sym, ap, ◌∙◌, subst, arith}
 use Rattle.std.specs.List.{flat_map, AllByRecursion}
-use Rattle.c2_spec.specs.Bmff.Boxes.{AreBoxForms, Box, HasRoots, IsSizedBox, begins_bmff, box_bytes, box_len, boxes_len}
-use Rattle.c2_spec.specs.Bmff.Store.{HasBmffStore, IsBmffLocated, is_other_box, most_store_bytes}
+use Rattle.c2_spec.specs.Bmff.Boxes.{AreBoxForms, Box, HasRoots, IsSizedBox, begins_bmff, box_bytes, boxes_len}
+use Rattle.c2_spec.specs.Bmff.Store.{HasBmffStore, IsBmffLocated, is_other_box}
 use Rattle.c2_spec.specs.Bmff.Writing.{c2pa_box, c2pa_frame_len}
 use Rattle.c2_spec.specs.Container.{IsLocated, is_bmff}
 use Rattle.c2_spec.specs.Jpeg.Store as jpeg
@@ -13,25 +12,12 @@ use Rattle.c2_spec.proofs.BmffOneList.{first_box}
 use Rattle.c2_new_content_spec.specs.Holding.{BoxIsAtSplit, HoldsAt}
 use Rattle.c2_new_content_spec.specs.Splits.{AreClosed, CanHold, HasRoomFor, of_boxes, split_file}
 use Rattle.std.specs.Bool.{MatchBool}
-use Rattle.c2_bmff_insert_spec.proofs.Frames.{frame_len, holds_store, payload_len, same_store, whole_store}
+use Rattle.c2_bmff_insert_spec.proofs.Frames.{frame_len, holds_store, same_store, sized_frame, whole_store}
 use Rattle.c2_bmff_insert_spec.proofs.Placing.{begins_list, bytes_more, first_is, forms_append, left_is, one_more, put_is}
 use Rattle.c2_lemmas.proofs.Each.{each_back, each_front}
 use Rattle.c2_new_file_spec.proofs.Media.{box_two}
 use Rattle.c2_spec.proofs.BmffShared.{c2pa_box_length}
 use Rattle.c2_spec.proofs.Containers.{same_media}
-
--- ---- the box of a store
-
--- the box of a store says its size, where the store isn't too large
-is_frame : (bytes : List ℕ) → length bytes ≤ most_store_bytes → IsSizedBox (c2pa_box bytes)
-is_frame bytes h = record {
-  is_box = record {
-    kind = refl;
-    fits = lt-ltb (box_len (c2pa_box bytes)) (2 ^ 32) (omega (arith, frame_len bytes, h));
-    user_type = λ _. omega (arith, payload_len bytes);
-  };
-  sized = refl;
-}
 
 -- ---- boxes before a place and behind it
 
@@ -89,7 +75,7 @@ box_at base xs ys bytes room =
       begins = ap begins_bmff file ∙ begins_at base xs ys (new ∷ ys) has room.split.2;
       bytes = file;
       forms = forms_append xs (new ∷ ys) (front_sized xs ys has.forms room.room.0)
-          (forms_append (new ∷ []) ys (is_frame bytes (omega (arith, room.small)), tt) (back_forms xs ys has.forms));
+          (forms_append (new ∷ []) ys (sized_frame bytes (omega (arith, room.small)), tt) (back_forms xs ys has.forms));
       few = omega (arith, room.room.1, one_more xs ys new);
     }
 

@@ -26,7 +26,7 @@ use Rattle.c2_new_file_spec.specs.Manifests.{manifest_of, supers_in}
 use Rattle.c2_new_file_spec.specs.Store.{Content, NewIngredient, assertion_boxes, claim_parts, ingredient_assertion, new_alg, new_assertions, new_claim, new_manifest, new_store}
 use Rattle.c2_new_file_spec.specs.Unbound.{IsKnownBinding}
 use Rattle.c2_new_file_spec.specs.Written.{IsNewBinding, IsStoreEndingWith, IsText, new_written, written_assertion, written_item}
-use Rattle.c2_new_file_spec.proofs.Conditions.{Holds, all_each, all_hold}
+use Rattle.c2_rules.proofs.Conditions.{Holds, all_each, all_hold}
 use Rattle.c2_new_file_spec.proofs.Ingredients.{AreLabelled, good_label}
 use Rattle.c2_new_file_spec.proofs.Labels.{IsLabelText, manifest_label}
 use Rattle.c2_new_file_spec.proofs.StoreSize.{assertion_len, manifest_len, store_len}

@@ -16,14 +16,14 @@ use Rattle.c2_rules.specs.Ingredients.{is_ingredient, is_ingredient_kind, is_ing
 use Rattle.c2_rules.specs.Readings.{ReadBox, Reading, entries_in}
 use Rattle.c2_rules.specs.Rules.{is_any_ingredient, lists_label, redaction_tests, target_tests, uri_tests}
 use Rattle.c2_rules.specs.Rules as rule
-use Rattle.c2_rules.specs.Tests.{Test, each, first_failing}
+use Rattle.c2_rules.specs.Tests.{each, first_failing}
 use Rattle.c2_rules.specs.declared.answer.Failing.{Failing}
 use Rattle.c2_rules.specs.declared.code.Code.TheVariants.{ProfileRedactionTarget}
 use Rattle.c2_rules.proofs.ListLemmas.{from_below, from_passes, in_below}
 use Rattle.c2_rules.proofs.ReachLemmas.{placed}
 use Rattle.c2_rules.proofs.TestLemmas.{first_failing_append}
 use Rattle.c2_chain_spec.specs.Older.{has_signature, is_kept}
-use Rattle.c2_new_file_spec.proofs.Conditions.{Holds, all_hold}
+use Rattle.c2_rules.proofs.Conditions.{Holds, all_hold, none_holds}
 use Rattle.c2_new_file_spec.specs.Carrying.{FirstIsRefused, RedactionsAreAccepted}
 use Rattle.c2_new_file_spec.specs.Less.{SignsTaken}
 use Rattle.c2_new_file_spec.specs.Redacting.{takes_out}
@@ -34,16 +34,6 @@ use Rattle.c2_lemmas.proofs.Options.{map_none, none_first}
 use Rattle.c2_spec.proofs.GivenLabels.{given_is}
 
 -- ---- an entry that isn't refused
-
--- a list without a first failure holds
-none_holds : (ts : List Test) → first_failing ts ≡ None → AllByRecursion Holds ts
-none_holds [] e = tt
-none_holds (t ∷ ts) e = go t.fails refl e (none_holds ts)
-  where
-    go : (b : Bool) → t.fails ≡ b → cond b (Some t.failing) (first_failing ts) ≡ None
-        → (first_failing ts ≡ None → AllByRecursion Holds ts) → AllByRecursion Holds (t ∷ ts)
-    go true f g k = absurd (cc (g))
-    go false f g k = (f, k g)
 
 -- what an entry passes, where it stands behind some
 record IsFine (own : List ℕ) (rs : List Reading) (text : List ℕ) : Type 0 where
@@ -206,7 +196,7 @@ child_label rs i m b c e f = go (named_in b) refl e
         g ∙ ap Some (sym at.2 ∙ ap label_in (same_Some at.0 c (sym at.1 ∙ f)))
 
 -- no text names this box's manifest where the box lacks a signature
-abbrev BoxFine : List (List ℕ) → ReadBox → Type 0
+abbrev pub BoxFine : List (List ℕ) → ReadBox → Type 0
 BoxFine texts b = AllByRecursion (λ (text : List ℕ). names_unsigned (uri_of text) b ≡ false) texts
 
 -- none of these boxes lacks a signature
@@ -228,7 +218,7 @@ signed_boxes rs i r text reached is h =
     (sym (ap (λ x. x && passes_some f (slice_get rs i)) reached ∙ ap (passes_some f) is) ∙ at)
 
 -- box by box, of one more text
-add_text : (text : List ℕ) (texts : List (List ℕ)) (bs : List ReadBox)
+pub add_text : (text : List ℕ) (texts : List (List ℕ)) (bs : List ReadBox)
     → AllByRecursion (λ (b : ReadBox). names_unsigned (uri_of text) b ≡ false) bs → AllByRecursion (BoxFine texts) bs
     → AllByRecursion (BoxFine (text ∷ texts)) bs
 add_text text texts [] h k = tt
@@ -256,8 +246,8 @@ box_signed m l b (text ∷ texts) n h t = ⊎_elim (λ here.
     not-false (has_signature b) (sym (ap (λ x. x && not (has_signature b)) names) ∙ lacks)) (λ later. box_signed m l b texts n h.1 later) (or_cases (names_assertion m l (uri_of text)) (takes_out texts m l) t)
 
 -- each box names a signature where something is taken out of its child
-all_signed : (rs : List Reading) (i : ℕ) (texts : List (List ℕ)) (bs : List ReadBox) → AllByRecursion (BoxFine texts) bs
-    → AllByRecursion (SignsTaken texts rs i) bs
+pub all_signed : (rs : List Reading) (i : ℕ) (texts : List (List ℕ)) (bs : List ReadBox)
+    → AllByRecursion (BoxFine texts) bs → AllByRecursion (SignsTaken texts rs i) bs
 all_signed rs i texts [] h = tt
 all_signed rs i texts (b ∷ bs) h =
     ((λ m c label child is taken. box_signed (label_in c) label b texts (child_label rs i m b c child is) h.0 taken), all_signed rs i texts bs h.1)

@@ -1,7 +1,8 @@
 -- The boxes of a tree by their indices, and the boxes themselves: both tell the same manifests.
-use Rattle.std.proofs.Common.{◌≡◌, ℕ, ◌+◌, Bool, true, false, cond, List, [], ◌∷◌, ◌++◌, length, drop, get_or, map, Option, Some, None, slice_get, refl, sym, ap, ◌∙◌, subst, arith, append_assoc, length-append, codes}
+use Rattle.std.proofs.Common.{◌≡◌, ℕ, zero, suc, ◌+◌, Bool, true, false, cond, List, [], ◌∷◌, ◌++◌, length, drop, get_or, map, Option, Some, None, slice_get, refl, sym, ap, ◌∙◌, subst, arith, append_assoc, length-append, codes}
 use Rattle.std.specs.Prelude.{⊤, filter, find, is_some, option_map, option_and_then}
 use Rattle.std.proofs.lemmas.List.{get_or-drop, drop-drop, drop_at, append-nil}
+use Rattle.std.proofs.lemmas.Option.{same_Some}
 use Rattle.c2_spec.specs.Jumbf.Tree.{Description, Tree, Trees, leaf, super, none, more, tree_bytes, head_len, description_bytes}
 use Rattle.c2_spec.specs.Jumbf.Boxes.{AnyBox, IndexedBox, node, described, tree_count, trees_count, boxes_from, boxes_from_all, boxes_of, box_at, child_indices, children_of, indices_from, any_uuid, any_label, any_contents}
 use Rattle.c2_spec.specs.C2pa.Manifest.{Superbox, has_type, is_named, is_superbox, superboxes, inside, claims_in, signature_in, assertion_store_in, manifest_boxes, cbor_contents, item_at, superbox_at, manifest_at, manifests_of}
@@ -281,3 +282,15 @@ same_manifests t =
 -- the superboxes, seen as boxes
 pub supers_any : (t : Tree) → Both t (superboxes t 0) (supers_of t)
 supers_any t = supers_are t 0 t (at_root t)
+
+-- ---- a box at its place
+
+-- the box at a place, where its index stands there
+pub both_get : (t : Tree) (is : List ℕ) (ss : List Tree) (k i : ℕ) (s : Tree) → Both t is ss → slice_get is k ≡ Some i
+    → slice_get ss k ≡ Some s → At t i s
+unfolding Both
+both_get t [] ss k i s h e f = absurd (cc (e))
+both_get t (j ∷ is) [] k i s h e f = absurd h
+both_get t (j ∷ is) (u ∷ us) zero i s h e f =
+    subst (λ (n : ℕ). At t n s) (same_Some j i e) (subst (At t j) (same_Some u s f) h.0)
+both_get t (j ∷ is) (u ∷ us) (suc k) i s h e f = both_get t is us k i s h.1 e f

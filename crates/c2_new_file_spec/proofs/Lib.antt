@@ -2,7 +2,6 @@ pub mod BoxLemmas
 pub mod BuildRows
 pub mod BuiltLemmas
 pub mod ByIndex
-pub mod Conditions
 pub mod GoodItems
 pub mod Ingredients
 pub mod Labels

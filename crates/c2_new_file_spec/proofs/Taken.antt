@@ -453,3 +453,10 @@ box_stays (super wide d us) =
 pub all_carried : AllAreCarried
 all_carried none = refl
 all_carried (more t ts) = ap (λ (x : Tree). more x (redacted_boxes [] ts)) (box_stays t) ∙ ap (more t) (all_carried ts)
+
+-- ---- superboxes
+
+-- less what is redacted a box stays a superbox or none
+pub redacted_super : (redacts : List (List ℕ)) (u : Tree) → is_super (redacted_box redacts u) ≡ is_super u
+redacted_super redacts (leaf b) = refl
+redacted_super redacts (super wide d us) = refl

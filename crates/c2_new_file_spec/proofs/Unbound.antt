@@ -14,7 +14,7 @@ use Rattle.c2_rules.specs.Readings.{Reading}
 use Rattle.c2_rules.specs.Rules.{unjudged_tests}
 use Rattle.c2_rules.specs.Rules as rule
 use Rattle.c2_new_file_spec.specs.Unbound.{BoundFileMeets}
-use Rattle.c2_new_file_spec.proofs.Conditions.{Holds, all_each, all_hold}
+use Rattle.c2_rules.proofs.Conditions.{Holds, all_each, all_hold}
 use Rattle.c2_lemmas.proofs.Each.{each_append}
 
 -- once the binding is met, all is

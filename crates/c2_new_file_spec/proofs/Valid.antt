@@ -28,7 +28,7 @@ use Rattle.c2_new_file_spec.specs.Manifests.{is_signature_box, manifest_of, supe
 use Rattle.c2_new_file_spec.specs.Store.{Content, NamedManifest, parent_ingredient}
 use Rattle.c2_new_file_spec.specs.Written.{CanBeCarried, IsStoreBox}
 use Rattle.c2_new_file_spec.proofs.ByIndex.{same_manifests}
-use Rattle.c2_new_file_spec.proofs.Conditions.{Holds, all_each, all_hold}
+use Rattle.c2_rules.proofs.Conditions.{Holds, all_each, all_hold}
 use Rattle.c2_chain_spec.specs.Rooted.{ReadsKinds}
 use Rattle.c2_new_file_spec.specs.Carrying.{AreAccepted, CanStandOver, IsLast, IsTakenOver, SomeContentOver, ValidStoreIsCarried}
 use Rattle.c2_new_file_spec.specs.Less.{AreLess, IsReadLess}

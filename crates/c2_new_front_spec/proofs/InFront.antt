@@ -1,35 +1,20 @@
 -- The box of a store put in after the first root box.
-use Rattle.std.proofs.Common.{◌≡◌, ℕ, ◌+◌, ◌^◌, ◌≤◌, Bool, true, false, cond, List, [], ◌∷◌, ◌++◌, length, take, drop, Option, Some, None, refl, sym, ap, ap₂, ◌∙◌, arith, append-nil, length-append, bytes_eq}
-use Rattle.std.proofs.lemmas.Bool.{lt-ltb}
+use Rattle.std.proofs.Common.{◌≡◌, ℕ, ◌+◌, ◌≤◌, Bool, true, false, cond, List, [], ◌∷◌, ◌++◌, length, take, drop, Option, Some, None, refl, sym, ap, ap₂, ◌∙◌, arith, append-nil, length-append, bytes_eq}
 use Rattle.std.proofs.lemmas.List.{take_at, drop_at, drop-drop}
 use Rattle.std.specs.List.{flat_map}
 use Rattle.std.specs.Int.{w64, to_be_bytes}
 use Rattle.c2_spec.specs.Bmff.Boxes.{AreBoxForms, Box, HasRoots, IsBox, IsSizedBox, begins_bmff, box_bytes, box_len, ftyp_kind, is_to_end}
 use Rattle.c2_spec.specs.Bmff.Paths.{placed_from}
-use Rattle.c2_spec.specs.Bmff.Store.{most_store_bytes}
 use Rattle.c2_spec.specs.Bmff.Writing.{built_part, c2pa_box, c2pa_frame_len, is_left_out}
 use Rattle.c2_spec.specs.PutIn.{put_in, taken_out}
 use Rattle.c2_spec.proofs.BmffOneList.{first_box, other_boxes}
 use Rattle.c2_spec.proofs.BmffSizes.{bytes_size}
 use Rattle.c2_new_front_spec.specs.InFront.{FrontHasRoots, OnlyOthersAreCovered, StoreIsPutInFront, front_place, put_in_front}
-use Rattle.c2_bmff_insert_spec.proofs.Frames.{frame_len, holds_store, payload_len, same_store, whole_store}
+use Rattle.c2_bmff_insert_spec.proofs.Frames.{frame_len, holds_store, same_store, sized_frame, whole_store}
 use Rattle.c2_bmff_insert_spec.proofs.Placing.{begins_with}
 use Rattle.c2_lemmas.proofs.Bools.{or_middle}
 use Rattle.c2_new_file_spec.proofs.Media.{box_two}
 use Rattle.c2_spec.proofs.BmffShared.{c2pa_box_length}
-
--- ---- the box of a store
-
--- the box of a store says its size, where the store isn't too large
-is_frame : (store : List ℕ) → length store ≤ most_store_bytes → IsSizedBox (c2pa_box store)
-is_frame store h = record {
-  is_box = record {
-    kind = refl;
-    fits = lt-ltb (box_len (c2pa_box store)) (2 ^ 32) (omega (arith, frame_len store, h));
-    user_type = λ _. omega (arith, payload_len store);
-  };
-  sized = refl;
-}
 
 -- ---- the first root box
 
@@ -110,7 +95,8 @@ front_roots base (b ∷ bs) store room =
       begins = ap begins_bmff file ∙ begins_with b others first ∙ first_type base b bs room.has_roots;
       bytes = file;
       forms =
-          (record { is_box = first; sized = first_sized (is_to_end b.form) room.closed }, forms_more (c2pa_box store) bs (is_frame store room.small) (other_boxes b bs room.has_roots.forms));
+          (record { is_box = first; sized = first_sized (is_to_end b.form) room.closed }, forms_more (c2pa_box store) bs
+          (sized_frame store room.small) (other_boxes b bs room.has_roots.forms));
       few = omega (arith, room.few);
     }
 

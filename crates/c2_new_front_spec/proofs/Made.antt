@@ -14,6 +14,8 @@ use Rattle.c2_new_front_spec.proofs.Meeting.{fresh_front}
 use Rattle.c2_new_front_spec.proofs.Building.{front_is}
 use Rattle.c2_new_front_spec.proofs.Building.{front_has}
 use Rattle.c2_definition.proofs.TheLaws.{definitions_are_well_formed}
+use Rattle.c2_new_signature.proofs.TheLaws.{accepted_messages_can_be_padded}
+use Rattle.c2_lemmas.proofs.Stages.{stage_value}
 use Rattle.std.proofs.Common.{◌≡◌, ◌⊎◌, inl, inr, ℕ, List, [], ◌∷◌, length, refl, sym, ap, ◌∙◌, subst}
 use Rattle.std.specs.Prelude.{Result, Ok, Err}
 use Rattle.c2_base.specs.declared.values.Question.{Question}
@@ -27,6 +29,7 @@ use Rattle.c2_spec.specs.declared.digest.Alg.{Alg}
 use Rattle.c2_spec.proofs.BmffOneList.{roots_once}
 use Rattle.c2_pad.specs.Fill.{fill_pairs}
 use Rattle.c2_bmff_chunks.specs.Laws.{AreBytes}
+use Rattle.c2_definition.specs.DefinitionFile.{IsDefinition}
 use Rattle.c2_definition.specs.declared.types.Definition.{Definition}
 use Rattle.c2_new_signature.specs.Signed.{IsSigned}
 use Rattle.c2_new_file_spec.specs.Built.{HasDigestLen}
@@ -37,10 +40,10 @@ use Rattle.c2_new_file_spec.specs.Films.{AreOthers, new_bmff_binding, bmff_len}
 use Rattle.c2_new_front_spec.specs.Fronts.{CanBuildFront, IsFrontBuilt, front_covered, front_store}
 use Rattle.c2_new_front_spec.specs.Made.{BytesAreThere, ChunksAreThere, ChunksAreThereOrRefused, FrontMeets, HasTextsIn, MadeFrontMeets}
 use Rattle.c2_new_front_spec.specs.Meeting.{front_question}
-use Rattle.c2_new_front_spec.specs.Order.{CanPlanFront, FrontRefusal, bmff_refusals, front_refusals, plan_refusals, reserve_refusals}
-use Rattle.c2_new_front_spec.specs.Outcomes.{IsDefinitionStage, IsBmffStage, IsFrontMade, IsFrontPlanned, IsMediaStage, IsMessageStage, IsNewFile, IsPlannedIn, IsPlannedOver, NewFile, SomeFrontMade, front_signed, new_file}
+use Rattle.c2_new_front_spec.specs.Order.{CanPlanFront, FrontRefusal, bad_definition, bad_signature, bmff_refusals, front_refusals, plan_refusals, reserve_refusals}
+use Rattle.c2_new_front_spec.specs.Outcomes.{IsDefinitionStage, IsBmffStage, IsFrontMade, IsFrontPlanned, IsMediaStage, IsMessageRead, IsMessageStage, IsNewFile, IsPlannedIn, IsPlannedOver, NewFile, SomeFrontMade, front_signed, new_file}
 use Rattle.c2_new_front_spec.proofs.Shifts.{both_none}
-use Rattle.c2_new_front_spec.proofs.SomeOutcome.{FreeRoots, defined_of, free_roots, read_taken}
+use Rattle.c2_new_front_spec.proofs.SomeOutcome.{FreeRoots, free_roots}
 use Rattle.c2_new_front_spec.proofs.Stages.{passed, then_next, unless_passed, unless_passes}
 
 -- ---- what is known
@@ -178,11 +181,12 @@ meets_of hash media definition message b digests texts bytes k =
     let fits : CanBuildFront c (length k.signed) media k.roots =
     subst (λ (n : ℕ). CanBuildFront c n media k.roots) (sym filled) can.can in
     let read : SignParts = padded_read k.parts (fill_pairs k.is_signed.fill) in
-    let defined = defined_of definition d k.is_d in
+    let defined = stage_value bad_definition (IsDefinition definition) d k.is_d in
     let writable : CanBeWritten d =
     record { formed = definitions_are_well_formed definition d defined; texts = texts d defined } in
-    let taken = read_taken d.protected message k.parts k.is_parts in
-    let header : read.protected ≡ d.protected = taken.accepted.1.1.1.0 k.parts taken.spelled in
+    let taken = stage_value bad_signature (IsMessageRead d.protected message) k.parts k.is_parts in
+    let header : read.protected ≡ d.protected =
+    (accepted_messages_can_be_padded d.protected message k.parts taken.0 taken.1).own in
     let q : Question = front_question h c (length k.signed) media k.roots read in
     let store : Tree = front_store h c k.signed media k.roots in
     let built : IsFrontBuilt h c k.signed media new.file new.start new.len =
@@ -193,8 +197,8 @@ meets_of hash media definition message b digests texts bytes k =
       new = d;
       defined = defined;
       parts = k.parts;
-      spelled = taken.spelled;
-      own = taken.accepted.1.1.1.0 k.parts taken.spelled;
+      spelled = taken.1;
+      own = header;
       padded = k.signed;
       filled = k.is_signed;
       built = built;

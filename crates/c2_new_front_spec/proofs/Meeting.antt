@@ -1,8 +1,8 @@
 -- The file with its new store in front meets the rules, by the laws of splits and of contents.
-use Rattle.c2_bmff_chunks.proofs.TheLaws.{a_shifted_file_has_its_boxes_apart, a_shifted_file_has_its_boxes_roots, a_shifted_file_is_one_some}
-use Rattle.std.proofs.Common.{◌≡◌, ℕ, true, cond, List, [], ◌∷◌, length, map, Option, Some, None, refl, ap, ◌∙◌, subst, arith}
+use Rattle.c2_bmff_chunks.proofs.TheLaws.{a_shifted_file_has_its_boxes_roots}
+use Rattle.std.proofs.Common.{◌≡◌, ℕ, true, List, [], ◌∷◌, length, refl, subst, arith}
 use Rattle.c2_base.specs.declared.values.Question.{Question}
-use Rattle.c2_spec.specs.Bmff.Boxes.{Box, SizeForm, box_bytes, is_to_end}
+use Rattle.c2_spec.specs.Bmff.Boxes.{Box, box_bytes}
 use Rattle.c2_spec.specs.Bmff.Writing.{c2pa_box}
 use Rattle.c2_spec.specs.C2pa.Sign1.{question_of}
 use Rattle.c2_spec.specs.Container.{is_bmff}
@@ -14,32 +14,14 @@ use Rattle.c2_bmff_chunks.specs.Shifted.{IsShifted}
 use Rattle.c2_new_file_spec.specs.Fresh.{MeetsTheRules}
 use Rattle.c2_new_file_spec.specs.Store.{new_alg, new_claim, new_store}
 use Rattle.c2_new_file_spec.specs.Films.{new_bmff_binding, bmff_len, bmff_store_size}
-use Rattle.c2_new_front_spec.specs.Fronts.{IsMovable, front_file, front_store, moved_media, moved_roots, tables_of}
-use Rattle.c2_new_front_spec.specs.InFront.{front_place, open_first, others_text}
+use Rattle.c2_new_front_spec.specs.Fronts.{front_file, front_store, moved_media, moved_roots, tables_of}
+use Rattle.c2_new_front_spec.specs.InFront.{front_place, others_text}
 use Rattle.c2_new_front_spec.specs.Meeting.{FreshFrontMeets, front_question}
 use Rattle.c2_new_content_spec.specs.Contents.{ContentFileMeets, FreshContentMeets, content_store}
 use Rattle.c2_new_content_spec.specs.Splits.{HasRoomFor, split_text}
 use Rattle.c2_new_front_spec.specs.Splits.{FrontIsSplit, IsFrontSplit, front_split}
 use Rattle.c2_spec.proofs.Containers.{same_media}
-
--- boxes in the same forms are open alike
-open_by : (xs ys : List Box) → map (λ (b : Box). b.form) xs ≡ map (λ (b : Box). b.form) ys → open_first ys ≡ None
-    → open_first xs ≡ None
-open_by [] ys e h = refl
-open_by (x ∷ xs) [] e h = absurd (cc (e))
-open_by (x ∷ xs) (y ∷ ys) e h =
-    let same : x.form ≡ y.form = heads x.form y.form (map (λ (b : Box). b.form) xs) (map (λ (b : Box). b.form) ys) e in
-    ap (λ (f : SizeForm). cond {A = Option ℕ} (is_to_end f) (Some 0) None) same ∙ h
-  where
-    heads : (a b : SizeForm) (xs ys : List SizeForm) → a ∷ xs ≡ b ∷ ys → a ≡ b
-    heads a b xs ys e = cc (e)
-
--- the media with moved places is the media shifted
-media_shifts : (len : ℕ) (media : List ℕ) (roots : List Box) → IsMovable media roots
-    → IsShifted (front_place roots) len (tables_of media roots) media (moved_media len media roots)
-media_shifts len media roots m =
-    a_shifted_file_is_one_some (front_place roots) len (tables_of media roots) media m.bytes
-    (a_shifted_file_has_its_boxes_apart media roots m.bytes m.has_roots m.unrefused)
+use Rattle.c2_new_front_spec.proofs.Building.{media_shifts, open_by}
 
 -- the file is built over it, at the split behind the first root box of that
 pub fresh_front : FrontIsSplit → ContentFileMeets → FreshContentMeets → FreshFrontMeets

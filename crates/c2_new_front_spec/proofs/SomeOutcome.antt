@@ -1,14 +1,15 @@
 -- Inputs whose media file is opened as something come to some plan and to some new file, or to what refuses them.
 use Rattle.c2_definition.proofs.TheLaws.{definitions_are_well_formed, each_definition_is_read_one_way_some}
-use Rattle.c2_new_signature.proofs.TheLaws.{a_message_fills_its_reserve_or_needs_more, each_message_is_accepted_or_refused_for_one_test}
-use Rattle.std.proofs.Common.{◌≡◌, ◌⊎◌, inl, inr, ℕ, ◌^◌, ◌<◌, Bool, true, false, cond, List, [], ◌∷◌, length, All, Option, Some, None, refl, ap, ◌∙◌, subst}
+use Rattle.c2_new_signature.proofs.TheLaws.{a_message_fills_its_reserve_or_needs_more, accepted_paddable, each_message_is_accepted_or_refused_for_one_test, some_message_read}
+use Rattle.c2_lemmas.proofs.Options.{listed_some}
+use Rattle.c2_lemmas.proofs.Stages.{some_stage, stage_value}
+use Rattle.std.proofs.Common.{◌≡◌, ◌⊎◌, inl, inr, ℕ, Bool, true, false, cond, List, [], ◌∷◌, length, refl, ap, ◌∙◌, subst}
 use Rattle.std.specs.Bool.{MatchBool}
-use Rattle.std.specs.Option.{option_to_list}
-use Rattle.std.specs.Prelude.{Result, Ok, Err, option_map}
+use Rattle.std.specs.Prelude.{Result, Ok}
 use Rattle.c2_spec.specs.Bmff.Boxes.{Box, HasRoots}
 use Rattle.c2_spec.specs.Bmff.Store.{HasNoBmffStore, IsBmffLocated}
 use Rattle.c2_spec.specs.C2pa.Message.{bare_bytes}
-use Rattle.c2_spec.specs.C2pa.Sign1.{SignParts, SpellsMessage}
+use Rattle.c2_spec.specs.C2pa.Sign1.{SignParts}
 use Rattle.c2_spec.specs.Container.{IsLocated, is_bmff}
 use Rattle.c2_spec.specs.Jpeg.Store as jpeg
 use Rattle.c2_spec.specs.Jumbf.Tree.{Tree}
@@ -17,13 +18,10 @@ use Rattle.c2_spec.specs.declared.digest.Alg.{Alg}
 use Rattle.c2_rules.specs.Opened.{IsOpened}
 use Rattle.c2_definition.specs.DefinitionFile.{IsDefinition, IsWellFormed}
 use Rattle.c2_definition.specs.declared.types.Definition.{Definition}
-use Rattle.c2_definition.specs.declared.types.DefinitionField.{DefinitionField}
-use Rattle.c2_new_signature.specs.Message.{IsAccepted, IsRefused, RefusedForOne}
 use Rattle.c2_new_signature.specs.Refusals.{reserve_needed}
-use Rattle.c2_new_signature.specs.Signed.{FillsOrNeedsMore, IsPaddable, IsSigned, NeedsMore}
-use Rattle.c2_new_signature.specs.declared.error.SignaturePart.{SignaturePart}
+use Rattle.c2_new_signature.specs.Signed.{FillsOrNeedsMore, IsSigned, NeedsMore}
 use Rattle.c2_new_file_spec.specs.Films.{AreOthers}
-use Rattle.c2_new_front_spec.specs.Order.{FrontRefusal, bmff_refusals, front_refusals, not_bmff, plan_refusals, reserve_refusals, reserve_too_small, store_refusals}
+use Rattle.c2_new_front_spec.specs.Order.{FrontRefusal, bad_definition, bad_signature, bmff_refusals, front_refusals, not_bmff, plan_refusals, reserve_refusals, reserve_too_small, store_refusals}
 use Rattle.c2_new_front_spec.specs.Outcomes.{IsDefinitionStage, IsBmffStage, IsMadeIn, IsMadeOver, IsMediaStage, IsMessageRead, IsMessageStage, IsNewFile, IsPlannedIn, IsPlannedOver}
 use Rattle.c2_new_front_spec.specs.Outcomes.{SomeFrontMade, SomeFrontPlan, definition_stage, front_signed, media_stage, message_stage, new_file}
 use Rattle.c2_new_front_spec.proofs.Shifts.{both_none}
@@ -45,15 +43,6 @@ some_media media what opened = (media_stage what, (what, opened, refl))
 -- equal answers have equal values
 same_value : (v w : Opening Tree) → ◌≡◌ {A = Result (Opening Tree) FrontRefusal} (Ok v) (Ok w) → w ≡ v
 same_value v w e = cc (e)
-
--- a media file that passed is opened so
-pub opened_as : (media : List ℕ) (what : Opening Tree) → IsMediaStage media (Ok what) → IsOpened media what
-opened_as media what m = by m.0 m.1 m.2
-  where
-    by : (w : Opening Tree) → IsOpened media w → Ok what ≡ media_stage w → IsOpened media what
-    by (refused reason number) o e = absurd (cc (e))
-    by absent o e = subst (IsOpened media) (same_value what absent e) o
-    by (here start len t) o e = subst (IsOpened media) (same_value what (here start len t) e) o
 
 -- ---- the film
 
@@ -99,89 +88,23 @@ some_bmff media what m =
     let free = free_roots media what m none in
     (Ok free.roots, (free.roots, free.has_roots, refl)))
 
--- ---- the definition and the message
-
--- each definition file comes to something
-some_definition : (file : List ℕ) → Something (IsDefinitionStage file)
-some_definition file = let d = each_definition_is_read_one_way_some file in (definition_stage d.0, (d.0, d.1, refl))
-
--- a definition that passed is that of its file
-pub defined_of : (file : List ℕ) (d : Definition) → IsDefinitionStage file (Ok d) → IsDefinition file (Ok d)
-defined_of file d h = by h.0 h.1 h.2
-  where
-    by : (r : Result Definition DefinitionField) → IsDefinition file r → Ok d ≡ definition_stage r
-        → IsDefinition file (Ok d)
-    by (Ok x) is e = let same : x ≡ d = cc (e) in subst (λ (y : Definition). IsDefinition file (Ok y)) same is
-    by (Err f) is e = absurd (cc (e))
-
--- each message comes to something
-some_message : RefusedForOne → (protected bytes : List ℕ) → All (λ b. b < 2 ^ 8) bytes
-    → Something (IsMessageStage protected bytes)
-some_message law protected bytes are = by (law.either protected bytes are)
-  where
-    by : IsAccepted protected bytes ⊎ ((test : SignaturePart) × IsRefused protected bytes test)
-        → Something (IsMessageStage protected bytes)
-    by (inl a) = let form = a.1.0 in (Ok form.0, (Ok form.0, (a, form.1), refl))
-    by (inr r) = (message_stage (Err r.0), (Err r.0, r.1, refl))
-
--- What was read of a message that is accepted.
-pub record IsTaken (protected bytes : List ℕ) (p : SignParts) : Type 0 where
-  pub accepted : IsAccepted protected bytes
-  pub spelled : SpellsMessage bytes p
-
--- a message that passed was accepted
-pub read_taken : (protected bytes : List ℕ) (p : SignParts) → IsMessageStage protected bytes (Ok p)
-    → IsTaken protected bytes p
-read_taken protected bytes p h = by h.0 h.1 h.2
-  where
-    by : (m : Result SignParts SignaturePart) → IsMessageRead protected bytes m → Ok p ≡ message_stage m
-        → IsTaken protected bytes p
-    by (Ok q) is e = let same : q ≡ p = cc (e) in record { accepted = is.0; spelled = subst (SpellsMessage bytes) same is.1 }
-    by (Err t) is e = absurd (cc (e))
-
--- a message that passed can be padded to what a definition reserves
-paddable : (protected bytes : List ℕ) (p : SignParts) (d : Definition) → IsTaken protected bytes p → IsWellFormed d
-    → IsPaddable bytes p d.reserve
-paddable protected bytes p d t formed =
-    let tests = t.accepted.1.1 in
-    let map = t.spelled.is.header in
-    record {
-      spelled = t.spelled;
-      small = t.accepted.0;
-      entries = map.0;
-      can = record {
-        map = map.1;
-        plain = tests.0 p t.spelled;
-        few = tests.1.1.0 p t.spelled map.0 map.1;
-        no_pad = (tests.1.1.1.0 p t.spelled map.0 map.1).0;
-        no_pad2 = (tests.1.1.1.0 p t.spelled map.0 map.1).1;
-      };
-      most = formed.most;
-    }
-
 -- ---- the new file
-
--- where nothing is refused of what is reserved, a message doesn't need more
-no_more : (d : Definition) (p : SignParts) → reserve_refusals d p ≡ [] → NeedsMore p d.reserve → ⊥
-no_more d p none needs = by (reserve_needed d.reserve (length (bare_bytes p))) needs.1 none
-  where
-    by : (o : Option ℕ) → o ≡ Some needs.0 → option_to_list (option_map reserve_too_small o) ≡ [] → ⊥
-    by None e k = cc (e)
-    by (Some n) e k = cc (k)
 
 -- a file is built where nothing is refused
 some_made : FillsOrNeedsMore
     → (hash : Alg → List ℕ → List ℕ) (media bytes : List ℕ) (d : Definition) (m : SignParts) (roots : List Box)
-    → IsTaken d.protected bytes m → IsWellFormed d
+    → IsMessageRead d.protected bytes (Ok m) → IsWellFormed d
     → front_refusals media roots d m ≡ [] → Something (IsNewFile hash media d m roots)
 some_made fills hash media bytes d m roots taken formed none =
     let both = both_none (plan_refusals media roots d) (reserve_refusals d m) none in
-    by both.1 (fills.either bytes m d.reserve (paddable d.protected bytes m d taken formed))
+    by both.1
+    (fills.either bytes m d.reserve (accepted_paddable d.protected bytes m d.reserve taken.0 taken.1 formed.most))
   where
     by : reserve_refusals d m ≡ [] → ((message : List ℕ) × IsSigned m d.reserve message) ⊎ NeedsMore m d.reserve
         → Something (IsNewFile hash media d m roots)
     by pass (inl s) = (Ok (new_file hash media roots d s.0), (s.0, s.1, refl))
-    by pass (inr n) = absurd (no_more d m pass n)
+    by pass (inr n) =
+        absurd (listed_some reserve_too_small (reserve_needed d.reserve (length (bare_bytes m))) n.0 n.1 pass)
 
 -- ---- both calls
 
@@ -189,7 +112,8 @@ some_made fills hash media bytes d m roots taken formed none =
 pub some_plan : SomeFrontPlan
 some_plan hash media definition what opened =
     some_then (IsMediaStage media) (IsPlannedOver hash media definition) (some_media media what opened) (λ kind is_media.
-    some_then (IsDefinitionStage definition) _ (some_definition definition) (λ d is_d.
+    some_then (IsDefinitionStage definition) _
+    (some_stage definition_stage (IsDefinition definition) (each_definition_is_read_one_way_some definition)) (λ d is_d.
     some_then (IsBmffStage media kind) (IsPlannedIn hash media d) (some_bmff media kind is_media) (λ roots is_bmff_file.
     some_unless (plan_refusals media roots d) (λ r. r ≡ Ok (front_signed hash media roots d)) (λ none. (Ok (front_signed hash media roots d), refl)))))
 
@@ -197,8 +121,13 @@ some_plan hash media definition what opened =
 pub some_file : SomeFrontMade
 some_file hash media definition message what opened are =
     some_then (IsMediaStage media) (IsMadeOver hash media definition message) (some_media media what opened) (λ kind is_media.
-    some_then (IsDefinitionStage definition) _ (some_definition definition) (λ d is_d.
-    some_then (IsMessageStage d.protected message) _ (some_message each_message_is_accepted_or_refused_for_one_test d.protected message are) (λ m is_m.
+    some_then (IsDefinitionStage definition) _
+    (some_stage definition_stage (IsDefinition definition) (each_definition_is_read_one_way_some definition)) (λ d is_d.
+    some_then (IsMessageStage d.protected message) _
+    (some_stage message_stage (IsMessageRead d.protected message)
+    (some_message_read each_message_is_accepted_or_refused_for_one_test d.protected message are)) (λ m is_m.
     some_then (IsBmffStage media kind) (IsMadeIn hash media d m) (some_bmff media kind is_media) (λ roots is_bmff_file.
     some_unless (front_refusals media roots d m) (IsNewFile hash media d m roots)
-    (some_made a_message_fills_its_reserve_or_needs_more hash media message d m roots (read_taken d.protected message m is_m) (definitions_are_well_formed definition d (defined_of definition d is_d)))))))
+    (some_made a_message_fills_its_reserve_or_needs_more hash media message d m roots
+    (stage_value bad_signature (IsMessageRead d.protected message) m is_m)
+    (definitions_are_well_formed definition d (stage_value bad_definition (IsDefinition definition) d is_d)))))))

@@ -7,7 +7,7 @@ use Rattle.c2_spec.specs.Bmff.Boxes.{box_bytes, boxes_len}
 use Rattle.c2_spec.specs.Bmff.Writing.{c2pa_box}
 use Rattle.c2_spec.specs.Jumbf.Tree.{tree_bytes}
 use Rattle.c2_spec.specs.PutIn.{put_in}
-use Rattle.c2_bmff_rows.proofs.BoxThere.{are_bytes, bytes-drop, bytes-take}
+use Rattle.c2_lemmas.proofs.Bytes.{are_bytes, bytes-drop, bytes-take}
 use Rattle.c2_bmff_rows.proofs.PathRows.{from_member, to_member}
 use Rattle.c2_bmff_chunks.specs.Fields.{Covers, all_fields, field_limit, moved, number_at, number_bytes, overflow_places}
 use Rattle.c2_bmff_chunks.specs.Laws.{AreBytes, ChunkStays, ChunksStay, FieldsLieBehind, TablesStandApart}

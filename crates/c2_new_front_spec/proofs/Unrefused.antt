@@ -1,54 +1,21 @@
 -- Where no refusal has its condition, each stage of a build in front comes to a value.
 use Rattle.std.proofs.Common.{◌≡◌, ℕ, List, [], subst}
-use Rattle.std.specs.Prelude.{Result, Ok, Err}
+use Rattle.std.specs.Prelude.{Ok}
 use Rattle.c2_spec.specs.Bmff.Boxes.{Box, HasRoots}
-use Rattle.c2_spec.specs.C2pa.Sign1.{SignParts}
 use Rattle.c2_spec.specs.Jumbf.Tree.{Tree}
-use Rattle.c2_spec.specs.Located.{Opening, refused, absent, here}
+use Rattle.c2_spec.specs.Located.{Opening}
 use Rattle.c2_spec.specs.declared.digest.Alg.{Alg}
-use Rattle.c2_spec.specs.declared.reason.Reason.{Reason}
 use Rattle.c2_rules.specs.Opened.{IsOpened}
 use Rattle.c2_definition.specs.DefinitionFile.{IsDefinition}
-use Rattle.c2_definition.specs.declared.types.Definition.{Definition}
-use Rattle.c2_definition.specs.declared.types.DefinitionField.{DefinitionField}
-use Rattle.c2_new_signature.specs.Message.{IsRefused}
-use Rattle.c2_new_signature.specs.declared.error.SignaturePart.{SignaturePart}
 use Rattle.c2_new_front_spec.specs.Made.{IsFrontUnrefused, IsPlanUnrefused, UnrefusedIsMade, UnrefusedIsPlanned}
-use Rattle.c2_new_front_spec.specs.Order.{bmff_refusals, front_refusals, plan_refusals, reserve_refusals}
+use Rattle.c2_new_front_spec.specs.Order.{bad_definition, bad_signature, bmff_refusals, front_refusals, media_refused, plan_refusals, reserve_refusals}
 use Rattle.c2_new_front_spec.specs.Outcomes.{IsDefinitionStage, IsBmffStage, IsFrontMade, IsFrontPlanned, IsMadeIn, IsMadeOver, IsMediaStage, IsMessageRead, IsMessageStage, IsNewFile, IsPlannedIn, IsPlannedOver}
-use Rattle.c2_new_front_spec.specs.Outcomes.{SomeFrontMade, SomeFrontPlan, definition_stage, front_signed, media_stage, message_stage}
-use Rattle.c2_new_front_spec.proofs.SomeOutcome.{defined_of, opened_as, read_taken}
+use Rattle.c2_new_front_spec.specs.Outcomes.{SomeFrontMade, SomeFrontPlan, front_signed}
+use Rattle.c2_lemmas.proofs.Stages.{stage_never, stage_value}
+use Rattle.c2_spec.proofs.Openings.{opening_never, opening_value}
 use Rattle.c2_new_front_spec.proofs.Stages.{NeverRefuses, comes_out, none_both, then_never, unless_never, unless_passed, value_never}
 
--- ---- the inputs
-
--- the media
-media_never : (media : List ℕ) → ((reason : Reason) (number : ℕ) → IsOpened media (refused reason number) → ⊥)
-    → NeverRefuses (IsMediaStage media)
-media_never media pass e h = by h.0 h.1 h.2
-  where
-    by : (what : Opening Tree) → IsOpened media what → Err e ≡ media_stage what → ⊥
-    by (refused reason number) o q = pass reason number o
-    by absent o q = cc (q)
-    by (here start len t) o q = cc (q)
-
--- the definition
-definition_never : (file : List ℕ) → ((field : DefinitionField) → IsDefinition file (Err field) → ⊥)
-    → NeverRefuses (IsDefinitionStage file)
-definition_never file pass e h = by h.0 h.1 h.2
-  where
-    by : (r : Result Definition DefinitionField) → IsDefinition file r → Err e ≡ definition_stage r → ⊥
-    by (Ok d) is q = cc (q)
-    by (Err field) is q = pass field is
-
--- the message
-message_never : (protected bytes : List ℕ) → ((test : SignaturePart) → IsRefused protected bytes test → ⊥)
-    → NeverRefuses (IsMessageStage protected bytes)
-message_never protected bytes pass e h = by h.0 h.1 h.2
-  where
-    by : (m : Result SignParts SignaturePart) → IsMessageRead protected bytes m → Err e ≡ message_stage m → ⊥
-    by (Ok p) is q = cc (q)
-    by (Err test) is q = pass test is
+-- ---- the film
 
 -- the root boxes
 bmff_never : (media : List ℕ) (what : Opening Tree) → bmff_refusals media what ≡ []
@@ -73,26 +40,37 @@ roots_of media what roots h =
 plan_never : (hash : Alg → List ℕ → List ℕ) (media definition : List ℕ) → IsPlanUnrefused media definition
     → NeverRefuses (IsFrontPlanned hash media definition)
 plan_never hash media definition h =
-    then_never (IsMediaStage media) (IsPlannedOver hash media definition) (media_never media h.media_passes) (λ what is_media.
-    then_never (IsDefinitionStage definition) _ (definition_never definition h.definition_passes) (λ d is_d.
-    then_never (IsBmffStage media what) (IsPlannedIn hash media d) (bmff_never media what (h.bmff_passes what (opened_as media what is_media))) (λ roots is_bmff_file.
+    then_never (IsMediaStage media) (IsPlannedOver hash media definition)
+    (opening_never media_refused (IsOpened media) h.media_passes) (λ what is_media.
+    then_never (IsDefinitionStage definition) _
+    (stage_never bad_definition (IsDefinition definition) h.definition_passes) (λ d is_d.
+    then_never (IsBmffStage media what) (IsPlannedIn hash media d)
+    (bmff_never media what (h.bmff_passes what (opening_value media_refused (IsOpened media) what is_media)))
+    (λ roots is_bmff_file.
     unless_never (plan_refusals media roots d) (λ r. r ≡ Ok (front_signed hash media roots d))
-    (h.plan_passes d roots (defined_of definition d is_d) (roots_of media what roots is_bmff_file)) (value_never (front_signed hash media roots d)))))
+    (h.plan_passes d roots (stage_value bad_definition (IsDefinition definition) d is_d)
+    (roots_of media what roots is_bmff_file)) (value_never (front_signed hash media roots d)))))
 
 -- a new file is never refused where nothing is refused of its inputs
 made_never : (hash : Alg → List ℕ → List ℕ) (media definition message : List ℕ)
     → IsFrontUnrefused media definition message → NeverRefuses (IsFrontMade hash media definition message)
 made_never hash media definition message h =
     let before : IsPlanUnrefused media definition = h.plan in
-    then_never (IsMediaStage media) (IsMadeOver hash media definition message) (media_never media before.media_passes) (λ what is_media.
-    then_never (IsDefinitionStage definition) _ (definition_never definition before.definition_passes) (λ d is_d.
-    let defined = defined_of definition d is_d in
-    then_never (IsMessageStage d.protected message) _ (message_never d.protected message (λ test. h.message_passes d test defined)) (λ parts is_parts.
-    then_never (IsBmffStage media what) (IsMadeIn hash media d parts) (bmff_never media what (before.bmff_passes what (opened_as media what is_media))) (λ roots is_bmff_file.
+    then_never (IsMediaStage media) (IsMadeOver hash media definition message)
+    (opening_never media_refused (IsOpened media) before.media_passes) (λ what is_media.
+    then_never (IsDefinitionStage definition) _
+    (stage_never bad_definition (IsDefinition definition) before.definition_passes) (λ d is_d.
+    let defined = stage_value bad_definition (IsDefinition definition) d is_d in
+    then_never (IsMessageStage d.protected message) _
+    (stage_never bad_signature (IsMessageRead d.protected message) (λ test. h.message_passes d test defined))
+    (λ parts is_parts.
+    then_never (IsBmffStage media what) (IsMadeIn hash media d parts)
+    (bmff_never media what (before.bmff_passes what (opening_value media_refused (IsOpened media) what is_media)))
+    (λ roots is_bmff_file.
     let plan : plan_refusals media roots d ≡ [] =
     before.plan_passes d roots defined (roots_of media what roots is_bmff_file) in
     let reserve : reserve_refusals d parts ≡ [] =
-    h.reserve_passes d parts defined (read_taken d.protected message parts is_parts).spelled in
+    h.reserve_passes d parts defined (stage_value bad_signature (IsMessageRead d.protected message) parts is_parts).1 in
     unless_never (front_refusals media roots d parts) (IsNewFile hash media d parts roots)
     (none_both (plan_refusals media roots d) (reserve_refusals d parts) plan reserve) (λ e k. cc (k.2))))))
 

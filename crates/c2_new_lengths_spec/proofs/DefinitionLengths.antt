@@ -1,6 +1,6 @@
 -- A definition that a file is, is short: its texts and its lists hold no more than the file has bytes, or thrice that.
 use Rattle.c2_definition.proofs.TheLaws.{definitions_are_well_formed}
-use Rattle.std.proofs.Common.{◌≡◌, ℕ, ◌+◌, ◌*◌, ◌≤◌, Bool, true, false, not, cond, List, [], ◌∷◌, length, codes, Option}
+use Rattle.std.proofs.Common.{◌≡◌, ℕ, ◌+◌, ◌*◌, ◌≤◌, Bool, true, false, cond, List, [], ◌∷◌, length, codes, Option}
 use Rattle.std.proofs.Common.{Some, None, option_and_then, option_map, Result, Ok, Err, nat_lt, refl, sym, ap, ◌∙◌}
 use Rattle.std.proofs.Common.{subst, arith, if◌then◌else◌}
 use Rattle.std.specs.Prelude.{IfSome}
@@ -31,6 +31,7 @@ use Rattle.c2_new_lengths_spec.specs.Lengths.{IsShort, assertions_len, texts_len
 use Rattle.c2_new_lengths_spec.proofs.JsonLengths.{array_size, data_size, got_size, items_size, read_size, some_size, str_size}
 use Rattle.c2_new_lengths_spec.proofs.JsonLengths.{text_under}
 use Rattle.c2_spec.proofs.CborShared.{required}
+use Rattle.c2_lemmas.proofs.Results.{past_test}
 
 -- ---- what is there
 
@@ -175,12 +176,6 @@ told_list : (v : Data) (payloads : Bool) (list : List NewAssertion)
 told_list v true list e = e
 told_list v false list e = absurd (cc (e))
 
--- of an object no key of which is another, the fields decide
-by_fields : (keys : Bool) (r : Result Definition DefinitionField) (d : Definition)
-    → (if not keys then Err field.Other else r) ≡ Ok d → r ≡ Ok d
-by_fields true r d h = h
-by_fields false r d h = absurd (cc (h))
-
 -- the lists of an object
 assertions_under : (v : Data) (list : List NewAssertion) → assertions_in v ≡ Some list
     → assertions_len list ≤ 3 * data_size v
@@ -204,7 +199,8 @@ title_within n m (Some t) le h = omega (arith, le, h)
 of_object : (v : Data) (payloads : Bool) (d : Definition) → data_size v ≤ MAX_INPUT_LEN
     → definition_of payloads v ≡ Ok d → d.reserve ≤ most_reserve → IsShort d
 of_object v payloads d le h most =
-    let label = required field.Label (label_in v) _ d (by_fields (has_keys is_field v) (fields_of payloads v) d h) in
+    let label = required field.Label (label_in v) _ d
+    (past_test (has_keys is_field v) field.Other (fields_of payloads v) d h) in
     let instance = required field.InstanceId (filled_at (codes "instance_id") v) _ d label.2 in
     let generator = required field.Generator (filled_at (codes "generator") v) _ d instance.2 in
     let title = required field.Title (optional_text_at (codes "title") v) _ d generator.2 in

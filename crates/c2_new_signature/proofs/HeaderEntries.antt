@@ -4,9 +4,9 @@ use Rattle.std.specs.Prelude.{cond}
 use Rattle.std.proofs.lemmas.Slice.Eq.{bytes_eq-Decides}
 use Rattle.c2_base.specs.declared.limits.TheConstants.{MAX_HEADER_ENTRIES}
 use Rattle.c2_spec.specs.C2pa.Message.{HasNoText}
-use Rattle.c2_spec.specs.Cbor.Item.{Item, text, Pairs, no_pairs, pair, pairs_len}
+use Rattle.c2_spec.specs.Cbor.Item.{Item, text, Pairs, no_pairs, pair}
 use Rattle.c2_spec.specs.Cbor.Lookup.{is_text, first_value}
-use Rattle.c2_spec.specs.Cbor.View.{view, pairs_view}
+use Rattle.c2_spec.specs.Cbor.View.{pairs_view}
 use Rattle.c2_spec.specs.declared.cbor.Cbor.{Cbor}
 use Rattle.c2_spec.proofs.TextKeys.{text_is}
 use Rattle.c2_new_signature.specs.Message.{AreFew, HasNoPadding}

@@ -3,11 +3,16 @@ use Rattle.c2_cbor_spec.proofs.TheLaws.{each_list_is_an_item_or_not_one, each_li
 use Rattle.c2_new_signature.proofs.Decided.{MessageLaws, accepted_or_refused}
 use Rattle.c2_new_signature.proofs.SignedLaws.{either_way, not_both, one_signed}
 use Rattle.c2_new_signature.proofs.Tests.{none_first, one_first, wanted_parts}
-use Rattle.c2_new_signature.specs.Message.{AcceptedAreWanted, Passes, RefusedForOne, message_tests}
-use Rattle.c2_new_signature.specs.Signed.{FillsOrNeedsMore}
+use Rattle.c2_new_signature.specs.Message.{AcceptedAreWanted, IsAccepted, IsRefused, IsWanted, Passes, RefusedForOne, message_tests}
+use Rattle.c2_new_signature.specs.Signed.{FillsOrNeedsMore, IsPaddable}
+use Rattle.c2_new_signature.specs.declared.error.SignaturePart.{SignaturePart}
 use Rattle.c2_pad.proofs.TheLaws.{fills_are_exact}
+use Rattle.c2_pad.specs.declared.types.TheConstants.{MAX_FILL}
 use Rattle.c2_sigstruct.proofs.TheLaws.{each_item_is_a_message_or_not, padded_messages_are_read_longer, padded_messages_are_read_read}
 use Rattle.c2_cbor_spec.proofs.PlainBack.{one_item}
+use Rattle.c2_spec.proofs.OneMessage.{same_message}
+use Rattle.c2_spec.specs.C2pa.Sign1.{SignParts, SpellsMessage}
+use Rattle.std.proofs.Common.{All, Err, List, MatchResult, Ok, Result, ap, inl, inr, ℕ, ◌<◌, ◌^◌, ◌≡◌, ◌≤◌, ◌⊎◌}
 
 -- a list of bytes is accepted as a message, or is refused for one test, and never both
 pub each_message_is_accepted_or_refused_for_one_test : RefusedForOne
@@ -35,3 +40,33 @@ a_message_fills_its_reserve_or_needs_more = record {
   never_both = not_both fills_are_exact;
   either = either_way fills_are_exact padded_messages_are_read_longer padded_messages_are_read_read;
 }
+
+-- a message is read as one thing: as its parts, where it is accepted, or as the test for which it is refused
+pub one_message_read : RefusedForOne → (protected bytes : List ℕ) (m n : Result SignParts SignaturePart)
+    → MatchResult m (λ p. IsAccepted protected bytes × SpellsMessage bytes p) (IsRefused protected bytes)
+    → MatchResult n (λ p. IsAccepted protected bytes × SpellsMessage bytes p) (IsRefused protected bytes) → m ≡ n
+one_message_read law protected bytes (Ok p) (Ok q) h k =
+    ap (λ (x : SignParts). Ok x) (same_message one_item bytes p q h.1 k.1)
+one_message_read law protected bytes (Ok p) (Err t) h k = absurd (law.none protected bytes t k h.0)
+one_message_read law protected bytes (Err t) (Ok q) h k = absurd (law.none protected bytes t h k.0)
+one_message_read law protected bytes (Err t) (Err u) h k =
+    ap (λ (x : SignaturePart). Err x) (law.one protected bytes t u h k)
+
+-- each message is read as something
+pub some_message_read : RefusedForOne → (protected bytes : List ℕ) → All (λ b. b < 2 ^ 8) bytes
+    → (m : Result SignParts SignaturePart)
+    × MatchResult m (λ p. IsAccepted protected bytes × SpellsMessage bytes p) (IsRefused protected bytes)
+some_message_read law protected bytes are = by (law.either protected bytes are)
+  where
+    by : IsAccepted protected bytes ⊎ ((test : SignaturePart) × IsRefused protected bytes test)
+        → (m : Result SignParts SignaturePart)
+        × MatchResult m (λ p. IsAccepted protected bytes × SpellsMessage bytes p) (IsRefused protected bytes)
+    by (inl a) = let form = a.1.0 in (Ok form.0, (a, form.1))
+    by (inr r) = (Err r.0, r.1)
+
+-- what accepted bytes spell can be padded to each reserve within the limit of padding
+pub accepted_paddable : (protected bytes : List ℕ) (p : SignParts) (reserve : ℕ) → IsAccepted protected bytes
+    → SpellsMessage bytes p → reserve ≤ MAX_FILL → IsPaddable bytes p reserve
+accepted_paddable protected bytes p reserve accepted spelled most =
+    let wanted : IsWanted protected p = wanted_parts protected bytes p accepted spelled in
+    record { spelled = spelled; small = accepted.0; entries = wanted.entries; can = wanted.can; most = most }

@@ -7,12 +7,13 @@ use Rattle.c2_spec.specs.Jpeg.Store as jpeg_store
 use Rattle.c2_spec.specs.Jpeg.Store.{HasJpegStore}
 use Rattle.c2_spec.specs.Located.{here}
 use Rattle.c2_rules.specs.Binding.{Media, IsMedia}
-use Rattle.c2_rules.proofs.JpegMedia.{of_jpeg, begins}
+use Rattle.c2_rules.proofs.JpegMedia.{begins}
 use Rattle.c2_container.specs.Contained.{IsContainerOf}
 use Rattle.c2_container.specs.declared.types.Container as types
 use Rattle.c2_container.specs.declared.types.Container.TheVariants.{Jpeg, Bmff}
 use Rattle.c2_opening.specs.Media.{IsMediaOf, media}
 use Rattle.c2_rules.proofs.OneMedia.{media_once}
+use Rattle.c2_spec.proofs.JpegLocated.{of_jpeg}
 
 -- as media it has the container that was read
 pub contained_media : (file : List ℕ) (c : types.Container) (m : Media) → IsContainerOf file c → IsMedia file m

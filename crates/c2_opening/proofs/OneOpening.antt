@@ -4,40 +4,19 @@ use Rattle.std.proofs.Common.{◌≡◌, sym, ◌∙◌, ap, ℕ, List, Option, 
 use Rattle.c2_spec.specs.C2pa.Manifest.{store_refusal}
 use Rattle.c2_spec.specs.Container.{IsLocated}
 use Rattle.c2_spec.specs.Jumbf.Tree.{Tree}
-use Rattle.c2_spec.specs.Located.{Opening, refused, absent, here, refused_by}
-use Rattle.c2_spec.specs.Reason.{boxes_refusal, manifests_refusal}
-use Rattle.c2_spec.specs.declared.reason.Refusal.{Refusal}
+use Rattle.c2_spec.specs.Located.{Opening, refused, absent, here}
+use Rattle.c2_spec.specs.Reason.{manifests_refusal}
 use Rattle.c2_rules.specs.Opened.{Opens, IsBoxTree, IsManifestTree, IsManifestStore, IsOpened}
 use Rattle.c2_lemmas.proofs.Numbers.{one_after}
 use Rattle.c2_lemmas.proofs.Options.{same_some}
 use Rattle.c2_rules.proofs.OneAnswer.{one_opens}
-use Rattle.c2_spec.proofs.JumbfNoFault.{no_fault}
-use Rattle.c2_spec.proofs.JumbfOneFault.{first_once}
-use Rattle.c2_spec.proofs.JumbfOneTree.{spells_once}
+use Rattle.c2_rules.proofs.OneBoxTree.{one_box_tree, opening_of}
 
 -- no value is there and not there
 none_some : {A : Type 0} (a : A) (o : Option A) → o ≡ Some a → o ≡ None → ⊥
 none_some a o p q = let bad = sym p ∙ q in cc (bad)
 
 -- ---- openings
-
--- an opening that is refused so
-abbrev opening_of : Option Refusal → Opening Tree
-opening_of None = absent
-opening_of (Some r) = refused_by r
-
--- a store's bytes are one box tree or one refusal at most
-one_box_tree : (start len : ℕ) (store : List ℕ) (x y : Opening Tree) → IsBoxTree start len store x
-    → IsBoxTree start len store y → x ≡ y
-one_box_tree start len store (refused r n) (refused q m) h k =
-    ap opening_of (sym h.2 ∙ ap boxes_refusal (first_once store h.0 k.0 h.1 k.1) ∙ k.2)
-one_box_tree start len store (refused r n) absent h k = absurd k
-one_box_tree start len store (refused r n) (here s l t) h k = absurd (no_fault store t h.0 k.0 h.1)
-one_box_tree start len store absent y h k = absurd h
-one_box_tree start len store (here s l t) (refused q m) h k = absurd (no_fault store t k.0 h.0 k.1)
-one_box_tree start len store (here s l t) absent h k = absurd k
-one_box_tree start len store (here s l t) (here p m u) h k =
-    h.1 ∙ ap (here start len) (spells_once store t u h.0 k.0) ∙ sym k.1
 
 -- a box tree is one store of manifests or one refusal at most
 one_manifest_tree : (start len : ℕ) (t : Tree) (x y : Opening Tree) → IsManifestTree start len t x

@@ -16,12 +16,7 @@ use Rattle.c2_spec.specs.declared.store.StoreError.TheVariants as store
 use Rattle.c2_opening.specs.Opened.{IsStoreRead, IsReadFrom}
 use Rattle.c2_opening.specs.declared.types.StoreRead.{StoreRead}
 use Rattle.c2_opening.specs.declared.types.StoreRead.TheVariants.{Here, Refused}
-
--- an error that refuses something is not that memory ran out
-faulty : (bytes : List ℕ) (e : JumbfError) (r : Refusal) → boxes_refusal e ≡ Some r
-    → (e ≡ boxes.NoMemory) ⊎ JumbfFault bytes e → JumbfFault bytes e
-faulty bytes e r refuses (inl memory) = absurd (let both = sym refuses ∙ ap boxes_refusal memory in cc (both))
-faulty bytes e r refuses (inr fault) = fault
+use Rattle.c2_spec.proofs.JumbfRefusals.{faulty}
 
 -- an error that refuses a store is not that memory ran out
 bad_store : (t : Tree) (e : StoreError) (r : Refusal) → manifests_refusal e ≡ Some r

@@ -1,12 +1,18 @@
 -- The laws of this crate, for the proofs of the crates above it.
+use Rattle.c2_base.specs.declared.media.Found.{Found}
 use Rattle.c2_container.specs.Contained.{IsContainerOf}
 use Rattle.c2_container.specs.declared.types.Container.{Container}
 use Rattle.c2_opening.proofs.OneMedia.{contained_media, store_container}
 use Rattle.c2_opening.proofs.OneOpening.{one_manifest_store, one_opened}
 use Rattle.c2_opening.specs.Media.{IsMediaOf}
+use Rattle.c2_opening.specs.Opened.{IsStoreRead}
+use Rattle.c2_opening.specs.declared.types.StoreRead.{StoreRead}
+use Rattle.c2_opening.specs.declared.types.StoreRead.TheVariants as read
 use Rattle.c2_rules.specs.Opened.{IsManifestStore, IsOpened}
 use Rattle.c2_spec.specs.Jumbf.Tree.{Tree}
 use Rattle.c2_spec.specs.Located.{Opening, here}
+use Rattle.c2_spec.specs.declared.store.ManifestBoxes.{ManifestBoxes}
+use Rattle.std.proofs.Common.{subst}
 use Rattle.std.specs.Prelude.{List, ℕ, ◌≡◌}
 use Rattle.c2_rules.specs.Binding as rules
 use Rattle.c2_spec.specs.Container as form
@@ -34,3 +40,8 @@ one_media_read = contained_media
 pub one_media_stored : (file : List ℕ) (start len : ℕ) (store : List ℕ) → form.IsLocated file (here start len store)
     → (c : form.Container) × form.IsContainer file c
 one_media_stored = store_container
+
+-- what a store that was found is read as that isn't refused
+pub here_tree : (f : Found) (r : StoreRead) (t : Tree) (s : List ManifestBoxes) → r ≡ read.Here t s → IsStoreRead f r
+    → IsManifestStore f.start f.length f.store (here f.start f.length t)
+here_tree f r t s is h = (subst (IsStoreRead f) is h).store

@@ -4,12 +4,9 @@ use Rattle.std.specs.Option.{MatchOption}
 use Rattle.std.proofs.lemmas.Bool.Decides.{nat_tests}
 use Rattle.c2_pad.specs.declared.types.Fill.{Fill}
 use Rattle.c2_pad.specs.Fill.{fill_cost, HasNoFill, IsFill, FillsAreExact, TwoOnlyWhereNeeded}
-use Rattle.c2_pad.proofs.Costs.{head_len, one_cost, two_cost}
+use Rattle.c2_pad.proofs.Costs.{one_cost, two_cost}
 use Rattle.c2_pad.proofs.Rows.{by_rows}
-
--- a head of one byte
-head_1 : (n : ℕ) → n < 24 → head_len n ≡ 1
-head_1 n lt = grind (arith, nat_tests, lt)
+use Rattle.c2_spec.proofs.CborHeadLengths.{head_len, head_short}
 
 -- a head of two bytes
 head_2 : (n : ℕ) → 24 ≤ n → n < 256 → head_len n ≡ 2
@@ -43,15 +40,15 @@ with_second : (need n head : ℕ) → head_len n ≡ head → need ≡ 10 + (hea
     → Costs need (Some (record { pad = Some n; pad2 = Some 0 }))
 with_second need n head is at most =
     record
-    { cost = omega (arith, two_cost n 0, is, at, head_1 0 (omega arith)); some = has_fill need (inr (omega (arith, at))) most }
+    { cost = omega (arith, two_cost n 0, is, at, head_short 0 (omega arith)); some = has_fill need (inr (omega (arith, at))) most }
 
 -- the rows cost what is needed
 pub exact : FillsAreExact
 exact = by_rows Costs (record {
   nothing = record { cost = refl; some = has_fill 0 (inl refl) (omega arith) };
   too_few = λ need ge le. inl (ge, le);
-  heads_of_1 = λ need ge le. let n = need - 5 in alone need n 1 (head_1 n (omega arith)) (omega arith) ge (omega arith);
-  at_29 = with_second 29 18 1 (head_1 18 (omega arith)) (omega arith) (omega arith);
+  heads_of_1 = λ need ge le. let n = need - 5 in alone need n 1 (head_short n (omega arith)) (omega arith) ge (omega arith);
+  at_29 = with_second 29 18 1 (head_short 18 (omega arith)) (omega arith) (omega arith);
   heads_of_2 = λ need ge le. let n = need - 6 in alone need n 2 (head_2 n (omega arith) (omega arith)) (omega arith) (omega arith) (omega arith);
   at_262 = with_second 262 250 2 (head_2 250 (omega arith) (omega arith)) (omega arith) (omega arith);
   heads_of_3 = λ need ge le. let n = need - 7 in alone need n 3 (head_3 n (omega arith) (omega arith)) (omega arith) (omega arith) (omega arith);

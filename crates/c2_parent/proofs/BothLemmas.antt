@@ -4,7 +4,6 @@ use Rattle.std.specs.List.{list_any}
 use Rattle.std.specs.Option.{option_or}
 use Rattle.std.specs.Prelude.{unwrap_or}
 use Rattle.std.proofs.lemmas.Bool.{false≢true}
-use Rattle.std.proofs.lemmas.List.{take_more}
 use Rattle.std.proofs.lemmas.Option.{same_Some, slice_get_within}
 use Rattle.std.proofs.lemmas.Slice.Eq.{bytes_eq-Decides}
 use Rattle.c2_spec.specs.C2pa.Uri.{PlainUri, assertion, uri_of}
@@ -20,7 +19,6 @@ use Rattle.c2_rules.proofs.ListLemmas.{from_any, from_below, from_passes, in_any
 use Rattle.c2_rules.proofs.ReachLemmas.{placed, place_is}
 use Rattle.c2_chain_spec.specs.Joined.{is_carried, picked}
 use Rattle.c2_chain_spec.proofs.Places.{contains_either, contains_left, contains_right, get_left, picked_at, picked_of}
-use Rattle.c2_new_file_spec.specs.Redacting.{takes_out}
 use Rattle.c2_new_file_spec.specs.Refusing.{any_reached, has_manifest, is_target, names_unsigned, new_claim_uri, redaction_refusal, refused_by}
 use Rattle.c2_new_file_spec.specs.declared.refused.RefusedRedaction.{RefusedRedaction}
 use Rattle.c2_collect_spec.specs.Collected.{JoinedReaches, WasReached, in_media, in_other, collected_readings}
@@ -30,7 +28,7 @@ use Rattle.c2_parent.specs.Both.{IsCodeOfBoth, IsFirstRefusedOfBoth, PassBothSoF
 use Rattle.c2_parent.specs.Named.{AreNamed, is_among}
 use Rattle.c2_parent.specs.Refused.{any_so, assertion_of, code_of}
 use Rattle.c2_parent.specs.declared.named.Named.{Named}
-use Rattle.c2_parent.proofs.RefusedLemmas.{code_append, failing_of, two, unsigned_eq}
+use Rattle.c2_parent.proofs.RefusedLemmas.{code_append, failing_of, named_more, no_failing, passed_text, two, unsigned_eq}
 use Rattle.c2_lemmas.proofs.Bools.{and_true, both_true, or_cases, or_second, same_test}
 use Rattle.c2_lemmas.proofs.Each.{at_contains, contains_at}
 use Rattle.c2_lemmas.proofs.Lists.{drop_first}
@@ -245,11 +243,6 @@ later_refuses own text m l olds others before code names passes e is_in j =
 
 -- ---- one redaction after the other
 
--- what was passed has it then
-passed_text : (redacts : List (List ℕ)) (k : ℕ) (text : List ℕ) → k < length redacts → text ≡ get_or redacts k text
-    → take (k + 1) redacts ≡ take k redacts ++ text ∷ []
-passed_text redacts k text lt e = take_more redacts k text lt ∙ ap (λ (x : List ℕ). take k redacts ++ x ∷ []) (sym e)
-
 -- the refusal of what is left is that of the next redaction, or of those after it
 split_both :
     (own : List ℕ) (olds others : List Reading) (redacts : List (List ℕ)) (k : ℕ) (before : Named) (text : List ℕ)
@@ -264,26 +257,6 @@ split_both own olds others redacts k before text o is_in h lt e j f =
     ∙ ap
     (λ (x : Option Failing). option_or (option_map (refused_by text) x) (refusal_after_by is_in own all (take k redacts ++ text ∷ []) (drop (k + 1) redacts)))
     f
-
--- no failing has no code
-no_failing : (o : Option Failing) → option_map (λ (f : Failing). f.code) o ≡ None → o ≡ None
-no_failing None e = refl
-no_failing (Some f) e = absurd (cc (e))
-
--- a label that one of them takes out more
-one_more : (m l text : List ℕ) (xs : List (List ℕ))
-    → takes_out (xs ++ text ∷ []) m l ≡ (takes_out xs m l || names_assertion m l (uri_of text))
-one_more m l text [] = go (names_assertion m l (uri_of text))
-  where
-    go : (b : Bool) → (b || false) ≡ b
-    go true = refl
-    go false = refl
-one_more m l text (x ∷ xs) = go (names_assertion m l (uri_of x)) (one_more m l text xs)
-  where
-    go : (b : Bool) → takes_out (xs ++ text ∷ []) m l ≡ (takes_out xs m l || names_assertion m l (uri_of text))
-        → (b || takes_out (xs ++ text ∷ []) m l) ≡ ((b || takes_out xs m l) || names_assertion m l (uri_of text))
-    go true h = refl
-    go false h = h
 
 -- what is said of a text is said of one that is equal
 pub same_text : (own : List ℕ) (olds others : List Reading) (before : Named) (asked text : List ℕ) (o : Option Code)
@@ -302,10 +275,7 @@ pub both_more :
     → ((m l : List ℕ) → is_among after m l ≡ (is_among before m l || names_assertion m l (uri_of text)))
     → PassBothSoFar own olds others redacts (k + 1) after
 both_more own olds others redacts k before after text o h lt e say isnt add = record {
-  named = record {
-    says = λ m l.
-        add m l ∙ ap (λ (b : Bool). b || names_assertion m l (uri_of text)) (h.named.says m l) ∙ sym (one_more m l text (take k redacts)) ∙ ap (λ (xs : List (List ℕ)). takes_out xs m l) (sym (passed_text redacts k text lt e));
-  };
+  named = named_more redacts k before after text h.named lt e add;
   rest = λ is_in j.
       split_both own olds others redacts k before text None is_in h lt e j
       (no_failing (first_failing (entry_tests_by is_in own (collected_readings olds others) (take k redacts) text)) (sym (say (take k redacts) h.named is_in j) ∙ isnt))

@@ -1,5 +1,5 @@
 -- The last manifest of a store, by its index and as a tree.
-use Rattle.std.proofs.Common.{◌≡◌, ℕ, zero, suc, ◌-◌, Bool, true, false, cond, List, [], ◌∷◌, length, map, Option, Some, None, slice_get, option_map, refl, sym, ap, ◌∙◌, subst, codes}
+use Rattle.std.proofs.Common.{◌≡◌, ℕ, zero, suc, ◌-◌, Bool, true, false, cond, List, [], ◌∷◌, length, map, Option, Some, None, slice_get, option_map, refl, sym, ap, ◌∙◌, codes}
 use Rattle.std.specs.Prelude.{bytes_eq, find, unwrap_or}
 use Rattle.std.specs.Option.{option_map_or}
 use Rattle.std.proofs.lemmas.List.{length-map}
@@ -8,7 +8,7 @@ use Rattle.c2_spec.specs.C2pa.Manifest.{Manifest, Superbox, is_given, manifest_b
 use Rattle.c2_spec.specs.Jumbf.Boxes.{AnyBox, node, any_contents, any_label, box_at}
 use Rattle.c2_spec.specs.Jumbf.Tree.{Tree, Trees, leaf, super, none, more}
 use Rattle.c2_spec.specs.declared.store.ManifestBoxes.{ManifestBoxes}
-use Rattle.c2_new_file_spec.proofs.ByIndex.{At, Both, at_box, manifest_is, supers_any}
+use Rattle.c2_new_file_spec.proofs.ByIndex.{At, at_box, both_get, manifest_is, supers_any}
 use Rattle.c2_new_file_spec.specs.FreshBoxes.{contents_of}
 use Rattle.c2_new_file_spec.specs.Manifests.{is_assertion_store, is_signature_box, is_super, superbox_of, supers_in, supers_of}
 use Rattle.c2_new_file_spec.specs.Store.{NamedManifest}
@@ -17,7 +17,7 @@ use Rattle.c2_new_file_spec.specs.Redacting.{boxes_in, redacted_box, redacted_bo
 use Rattle.c2_parent.specs.Boxes.{name_in, redacted_any}
 use Rattle.c2_lemmas.proofs.Options.{mapped_from}
 use Rattle.c2_new_file_spec.proofs.Stores.{both_len}
-use Rattle.c2_new_file_spec.proofs.Taken.{as_no_cs}
+use Rattle.c2_new_file_spec.proofs.Taken.{as_no_cs, redacted_super}
 
 -- ---- lists
 
@@ -27,21 +27,7 @@ get_map f [] i = refl
 get_map f (x ∷ xs) zero = refl
 get_map f (x ∷ xs) (suc i) = get_map f xs i
 
--- the box at a place, where its index stands there
-both_get : (t : Tree) (is : List ℕ) (ss : List Tree) (k i : ℕ) (s : Tree) → Both t is ss → slice_get is k ≡ Some i
-    → slice_get ss k ≡ Some s → At t i s
-unfolding Both
-both_get t [] ss k i s h e f = absurd (cc (e))
-both_get t (j ∷ is) [] k i s h e f = absurd h
-both_get t (j ∷ is) (u ∷ us) zero i s h e f = let x : j ≡ i = cc (e) in let y : u ≡ s = cc (f) in subst (λ (n : ℕ). At t n s) x (subst (At t j) y h.0)
-both_get t (j ∷ is) (u ∷ us) (suc k) i s h e f = both_get t is us k i s h.1 e f
-
 -- ---- redacted manifests
-
--- a box stays a superbox or none
-redacted_super : (redacts : List (List ℕ)) (u : Tree) → is_super (redacted_box redacts u) ≡ is_super u
-redacted_super redacts (leaf b) = refl
-redacted_super redacts (super wide d us) = refl
 
 -- the manifests of carried boxes are those of the store, each less what is redacted
 supers_redacted : (redacts : List (List ℕ)) (ts : Trees)

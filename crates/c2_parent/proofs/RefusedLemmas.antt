@@ -1,11 +1,11 @@
 -- Which redaction is refused, by what is looked up.
-use Rattle.std.proofs.Common.{◌≡◌, ℕ, zero, suc, ◌+◌, ◌<◌, ◌≤◌, Bool, true, false, cond, not, ◌&&◌, List, [], ◌∷◌, ◌++◌, length, get_or, take, drop, Option, Some, None, is_some, slice_get, option_copied, option_map, refl, sym, ap, ◌∙◌, arith, Result, Ok, Err, IfOk}
+use Rattle.std.proofs.Common.{◌≡◌, ℕ, zero, suc, ◌+◌, ◌<◌, ◌≤◌, Bool, true, false, cond, not, ◌&&◌, ◌||◌, List, [], ◌∷◌, ◌++◌, length, get_or, take, drop, Option, Some, None, is_some, slice_get, option_copied, option_map, refl, sym, ap, ◌∙◌, arith, Result, Ok, Err, IfOk}
 use Rattle.std.specs.Prelude.{bytes_eq, filter, find}
-use Rattle.std.specs.List.{list_any, position_from}
+use Rattle.std.specs.List.{list_any}
 use Rattle.std.specs.Prelude.{position, unwrap_or}
 use Rattle.std.proofs.lemmas.Iterator.Adapters.{position_from-zero}
 use Rattle.std.specs.Option.{option_or}
-use Rattle.std.proofs.lemmas.List.{drop_more}
+use Rattle.std.proofs.lemmas.List.{drop_more, take_more}
 use Rattle.std.proofs.lemmas.Option.{slice_get-get_or}
 use Rattle.std.proofs.lemmas.Slice.Eq.{bytes_eq-Decides}
 use denote.Ref.{Bor}
@@ -15,7 +15,7 @@ use Rattle.c2_spec.specs.declared.uri.Target.{Target}
 use Rattle.c2_spec.specs.declared.uri.Target.TheVariants.{Assertion}
 use Rattle.c2_spec.specs.declared.uri.Uri.{Uri}
 use Rattle.c2_spec.specs.declared.assertion.Kind.{Kind}
-use Rattle.c2_rules.specs.Chains.{LabelsDiffer, is_reached, label_in, named_in, passes_some, place_of}
+use Rattle.c2_rules.specs.Chains.{LabelsDiffer, is_reached, label_in, named_in, names_assertion, passes_some, place_of}
 use Rattle.c2_rules.specs.Readings.{ReadBox, Reading}
 use Rattle.c2_rules.specs.Ingredients.{assertion_uri}
 use Rattle.c2_rules.specs.Rules.{is_labelled, label_kind, names_own, redacted_tests}
@@ -240,6 +240,61 @@ split_at own rs redacts k before text h lt e =
     h.rest
     ∙ ap (refusal_after own rs (take k redacts))
     (drop_more redacts k text lt ∙ ap (λ (x : List ℕ). x ∷ drop (k + 1) redacts) (sym e))
+
+-- what was passed has it then
+pub passed_text : (redacts : List (List ℕ)) (k : ℕ) (text : List ℕ) → k < length redacts → text ≡ get_or redacts k text
+    → take (k + 1) redacts ≡ take k redacts ++ text ∷ []
+passed_text redacts k text lt e = take_more redacts k text lt ∙ ap (λ (x : List ℕ). take k redacts ++ x ∷ []) (sym e)
+
+-- a label that one of them takes out more
+one_more : (m l text : List ℕ) (xs : List (List ℕ))
+    → takes_out (xs ++ text ∷ []) m l ≡ (takes_out xs m l || names_assertion m l (uri_of text))
+one_more m l text [] = go (names_assertion m l (uri_of text))
+  where
+    go : (b : Bool) → (b || false) ≡ b
+    go true = refl
+    go false = refl
+one_more m l text (x ∷ xs) = go (names_assertion m l (uri_of x)) (one_more m l text xs)
+  where
+    go : (b : Bool) → takes_out (xs ++ text ∷ []) m l ≡ (takes_out xs m l || names_assertion m l (uri_of text))
+        → (b || takes_out (xs ++ text ∷ []) m l) ≡ ((b || takes_out xs m l) || names_assertion m l (uri_of text))
+    go true h = refl
+    go false h = h
+
+-- what the redactions name that were passed, with one more
+pub named_more : (redacts : List (List ℕ)) (k : ℕ) (before after : Named) (text : List ℕ) → AreNamed (take k redacts) before
+    → k < length redacts → text ≡ get_or redacts k text
+    → ((m l : List ℕ) → named.is_among after m l ≡ (named.is_among before m l || names_assertion m l (uri_of text)))
+    → AreNamed (take (k + 1) redacts) after
+named_more redacts k before after text h lt e add = record {
+  says = λ m l.
+      add m l ∙ ap (λ (b : Bool). b || names_assertion m l (uri_of text)) (h.says m l)
+      ∙ sym (one_more m l text (take k redacts))
+      ∙ ap (λ (xs : List (List ℕ)). takes_out xs m l) (sym (passed_text redacts k text lt e));
+}
+
+-- no failing has no code
+pub no_failing : (o : Option Failing) → option_map (λ (f : Failing). f.code) o ≡ None → o ≡ None
+no_failing None e = refl
+no_failing (Some f) e = absurd (cc (e))
+
+-- one that isn't refused is passed
+pub pass_more :
+    (own : List ℕ) (rs : List Reading) (redacts : List (List ℕ)) (k : ℕ) (before after : Named) (text : List ℕ)
+    (o : Option Code)
+    → PassSoFar own rs redacts k before → k < length redacts → text ≡ get_or redacts k text
+    → ((made : List (List ℕ)) → AreNamed made before → o ≡ code_of (entry_tests own rs made text)) → o ≡ None
+    → ((m l : List ℕ) → named.is_among after m l ≡ (named.is_among before m l || names_assertion m l (uri_of text)))
+    → PassSoFar own rs redacts (k + 1) after
+pass_more own rs redacts k before after text o h lt e say isnt add = record {
+  named = named_more redacts k before after text h.named lt e add;
+  rest =
+      split_at own rs redacts k before text h lt e
+      ∙ ap
+      (λ (x : Option Failing). option_or (option_map (refused_by text) x) (refusal_after own rs (take k redacts ++ text ∷ []) (drop (k + 1) redacts)))
+      (no_failing (first_failing (entry_tests own rs (take k redacts) text)) (sym (say (take k redacts) h.named) ∙ isnt))
+      ∙ ap (λ (xs : List (List ℕ)). refusal_after own rs xs (drop (k + 1) redacts)) (sym (passed_text redacts k text lt e));
+}
 
 -- one that is
 pub pass_ends :

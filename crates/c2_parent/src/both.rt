@@ -15,12 +15,10 @@ use crate::refused::{
     Known, has_manifest, is_own, is_target, is_unsigned, kind_code, known_of, refused,
     refused_redaction,
 };
-use crate::targets::targets_of;
-use crate::unsigned::unsigned_labels;
 use c2_base::{NoMemory, Text};
 use c2_chain::{Chain, label_kind, readings};
 use c2_new_file_spec::RefusedRedaction;
-use c2_read_manifests::{is_reached, manifests, place_of};
+use c2_read_manifests::{is_reached, place_of};
 use c2_rules::Code;
 use c2_uri::{Target, parse};
 use std::alloc::Global;
@@ -85,8 +83,8 @@ fn redactable<'u>(own: &str, text: &'u str) -> Result<Assertion<'u>, Code>
 
 /// Whether an assertion of one of two stores is there still, in a reached manifest, once those before were redacted.
 fn is_target_of_both<'u>(
-    old: &Known<'_, '_, '_>,
-    other: &Known<'_, '_, '_>,
+    old: &Known<'_, '_>,
+    other: &Known<'_, '_>,
     before: &Named<'u>,
     manifest: &'u str,
     label: &'u str,
@@ -99,7 +97,7 @@ fn is_target_of_both<'u>(
 }
 
 /// Whether an ingredient of a reached manifest of one of two stores names the manifest with this label without its signature.
-fn is_unsigned_in_both(old: &Known<'_, '_, '_>, other: &Known<'_, '_, '_>, manifest: &str) -> bool
+fn is_unsigned_in_both(old: &Known<'_, '_>, other: &Known<'_, '_>, manifest: &str) -> bool
     ensures { result ≡ (any_so old.now manifest.now (length old.now)
         || any_so other.now manifest.now (length other.now)) }
 {
@@ -109,8 +107,8 @@ fn is_unsigned_in_both(old: &Known<'_, '_, '_>, other: &Known<'_, '_, '_>, manif
 /// Why an assertion of which the rules on redactions hold can't be redacted: it is in neither store, or an ingredient of either names its
 /// manifest without the signature.
 fn store_code<'u>(
-    old: &Known<'_, '_, '_>,
-    other: &Known<'_, '_, '_>,
+    old: &Known<'_, '_>,
+    other: &Known<'_, '_>,
     before: &Named<'u>,
     manifest: &'u str,
     label: &'u str,
@@ -130,8 +128,8 @@ fn store_code<'u>(
 /// Why what a text names can't be redacted after these.
 fn entry_code<'u>(
     own: &str,
-    old: &Known<'_, '_, '_>,
-    other: &Known<'_, '_, '_>,
+    old: &Known<'_, '_>,
+    other: &Known<'_, '_>,
     before: &Named<'u>,
     text: &'u str,
 ) -> Option<Code>
@@ -148,8 +146,8 @@ fn entry_code<'u>(
 fn first_refused(
     alloc: Global,
     own: &str,
-    old: &Known<'_, '_, '_>,
-    other: &Known<'_, '_, '_>,
+    old: &Known<'_, '_>,
+    other: &Known<'_, '_>,
     redact: &[Text],
 ) -> Result<Option<RefusedRedaction>, NoMemory>
     ensures { IfOk result (IsFirstRefusedOfBoth own.now old.now other.now redact.now) }
@@ -162,6 +160,22 @@ fn first_refused(
         add_named(&mut before, text.as_str())?;
     }
     Ok(None)
+}
+
+/// The first of these redactions that is refused, beside what is known of the first store.
+fn refused_beside(
+    alloc: Global,
+    old: &Known<'_, '_>,
+    other: &Chain<'_>,
+    own: &str,
+    redact: &[Text],
+) -> Result<Option<RefusedRedaction>, NoMemory>
+    requires { LabelsDiffer other.now.readings }
+    ensures { IfOk result
+        (IsFirstRefusedOfBoth own.now old.now other.now.readings redact.now) }
+{
+    let known = known_of(alloc, other)?;
+    first_refused(alloc, own, old, &known, redact)
 }
 
 /// The first of these redactions that is refused in a new manifest with this label, over the joined manifests of two stores, which these
@@ -183,15 +197,8 @@ pub fn refused_in_both(
     if redact.is_empty() {
         return Ok(None);
     }
-    let old_all = readings(old);
-    let old_targets = targets_of(alloc, manifests(old_all))?;
-    let old_unsigned = unsigned_labels(alloc, old_all)?;
-    let other_all = readings(other);
-    let other_targets = targets_of(alloc, manifests(other_all))?;
-    let other_unsigned = unsigned_labels(alloc, other_all)?;
-    let old_known = known_of(old_all, old_targets.as_slice(), &old_unsigned);
-    let other_known = known_of(other_all, other_targets.as_slice(), &other_unsigned);
-    first_refused(alloc, own, &old_known, &other_known, redact)
+    let known = known_of(alloc, old)?;
+    refused_beside(alloc, &known, other, own, redact)
 }
 
 /// The first of these redactions that is refused in a new manifest with this label, over the manifests that are carried of the store of this

@@ -6,7 +6,7 @@ ghost use Rattle.c2_rules.specs.Rules.{names_own, redacted_tests};
 ghost use Rattle.c2_new_file_spec.specs.Refusing as form;
 ghost use Rattle.c2_new_file_spec.specs.Refusing.{entry_tests, redaction_refusal};
 ghost use Rattle.c2_parent.specs.Named.{AreNamed};
-ghost use Rattle.c2_parent.specs.Refused.{IsKnown, any_so, assertion_of, code_of, later_code, still_there, uri_entry_tests};
+ghost use Rattle.c2_parent.specs.Refused.{any_so, assertion_of, code_of, later_code, still_there, uri_entry_tests};
 
 use crate::named::{Named, add_named, no_names};
 use crate::targets::{is_still_there, targets_of};
@@ -29,15 +29,16 @@ pub fn has_manifest(chain: &Chain<'_>, label: &str) -> bool
     place_of(readings(chain), label).is_some()
 }
 
-/// What is known of an older store when redactions are tested.
+/// What is known of an older store when redactions are tested: its manifests, each with its boxes by their labels, and the labels that
+/// are named without a signature.
 #[derive(Drop)]
-pub struct Known<'k, 'c, 't> {
-    all: &'k ReadManifests<'t>,
-    targets: &'k [Labelled<'c, 't>],
-    unsigned: &'k Labels,
+pub struct Known<'c, 't> {
+    all: &'c ReadManifests<'t>,
+    targets: Vec<Labelled<'c, 't>>,
+    unsigned: Labels,
 }
 
-impl<'k, 'c, 't> Model for Known<'k, 'c, 't> {
+impl<'c, 't> Model for Known<'c, 't> {
     ghost use Rattle.std.specs.Prelude.{List};
     ghost use Rattle.std.specs.Coded.{codes};
     ghost use Rattle.c2_rules.proofs.ItemCode.{item_code};
@@ -50,28 +51,27 @@ impl<'k, 'c, 't> Model for Known<'k, 'c, 't> {
 
     ghost view = { λ k. k.all.now };
 
-    ghost invariant = { λ k. IsKnown k.all.now k.targets.now k.unsigned.now };
+    ghost invariant = { λ k. IsKnown k.all.now k.targets.items k.unsigned };
 }
 
-/// What is known of a store by its manifests, each with its boxes by their labels, and by the labels that are named without a signature.
-pub fn known_of<'k, 'c, 't>(
-    all: &'k ReadManifests<'t>,
-    targets: &'k [Labelled<'c, 't>],
-    unsigned: &'k Labels,
-) -> Known<'k, 'c, 't>
-    requires { IsKnown all.now targets.now unsigned.now }
-    ensures { result ≡ all.now }
+/// What is known of the store of this chain.
+pub fn known_of<'c, 't>(alloc: Global, chain: &'c Chain<'t>) -> Result<Known<'c, 't>, NoMemory>
+    requires { LabelsDiffer chain.now.readings }
+    ensures { IfOk result (λ known. known ≡ chain.now.readings) }
 {
-    Known {
+    let all = readings(chain);
+    let targets = targets_of(alloc, manifests(all))?;
+    let unsigned = unsigned_labels(alloc, all)?;
+    Ok(Known {
         all,
         targets,
         unsigned,
-    }
+    })
 }
 
 /// Whether an assertion of a store is there still, in a reached manifest, once those before were redacted.
 pub fn is_target<'u>(
-    known: &Known<'_, '_, '_>,
+    known: &Known<'_, '_>,
     before: &Named<'u>,
     manifest: &'u str,
     label: &'u str,
@@ -79,14 +79,20 @@ pub fn is_target<'u>(
     ensures { (redacts : List (List ℕ)) → AreNamed redacts before.now
         → result ≡ still_there known.now redacts manifest.now label.now }
 {
-    is_still_there(known.all, known.targets, before, manifest, label)
+    is_still_there(
+        known.all,
+        known.targets.as_slice(),
+        before,
+        manifest,
+        label,
+    )
 }
 
 /// Whether an ingredient of a reached manifest of a store names the manifest with this label without its signature.
-pub fn is_unsigned(known: &Known<'_, '_, '_>, manifest: &str) -> bool
+pub fn is_unsigned(known: &Known<'_, '_>, manifest: &str) -> bool
     ensures { result ≡ any_so known.now manifest.now (length known.now) }
 {
-    has_label(known.unsigned, manifest)
+    has_label(&known.unsigned, manifest)
 }
 
 /// Why an assertion of this kind can't be redacted, in the own manifest or in another.
@@ -107,7 +113,7 @@ pub fn kind_code(is_own: bool, what: Kind) -> Option<Code>
 /// Why an assertion of which the rules on redactions hold can't be redacted: it isn't there, or an ingredient names its
 /// manifest without the signature.
 fn store_code<'u>(
-    known: &Known<'_, '_, '_>,
+    known: &Known<'_, '_>,
     before: &Named<'u>,
     manifest: &'u str,
     label: &'u str,
@@ -115,10 +121,10 @@ fn store_code<'u>(
     ensures { (redacts : List (List ℕ)) → AreNamed redacts before.now
         → result ≡ later_code known.now redacts manifest.now label.now }
 {
-    if !is_still_there(known.all, known.targets, before, manifest, label) {
+    if !is_target(known, before, manifest, label) {
         return Some(Code::ProfileRedactionTarget);
     }
-    if has_label(known.unsigned, manifest) {
+    if is_unsigned(known, manifest) {
         return Some(Code::ProfileIngredientSignature);
     }
     None
@@ -127,7 +133,7 @@ fn store_code<'u>(
 /// Why this assertion can't be redacted.
 fn assertion_code<'u>(
     own: &str,
-    known: &Known<'_, '_, '_>,
+    known: &Known<'_, '_>,
     before: &Named<'u>,
     manifest: &'u str,
     label: &'u str,
@@ -145,7 +151,7 @@ fn assertion_code<'u>(
 /// Why what a URI names can't be redacted.
 fn target_code<'u>(
     own: &str,
-    known: &Known<'_, '_, '_>,
+    known: &Known<'_, '_>,
     before: &Named<'u>,
     manifest: Option<&'u str>,
     target: &Target<'u>,
@@ -168,7 +174,7 @@ fn target_code<'u>(
 /// Why what a text names can't be redacted after these.
 fn entry_code<'u>(
     own: &str,
-    known: &Known<'_, '_, '_>,
+    known: &Known<'_, '_>,
     before: &Named<'u>,
     text: &'u str,
 ) -> Option<Code>
@@ -193,7 +199,7 @@ pub fn refused(alloc: Global, text: &str, code: Code) -> Result<Option<RefusedRe
 fn first_refused(
     alloc: Global,
     own: &str,
-    known: &Known<'_, '_, '_>,
+    known: &Known<'_, '_>,
     redact: &[Text],
 ) -> Result<Option<RefusedRedaction>, NoMemory>
     ensures { IfOk result
@@ -226,14 +232,7 @@ pub fn refused_redaction(
     if redact.is_empty() {
         return Ok(None);
     }
-    let all = readings(chain);
-    let targets = targets_of(alloc, manifests(all))?;
-    let unsigned = unsigned_labels(alloc, all)?;
-    let known = Known {
-        all,
-        targets: targets.as_slice(),
-        unsigned: &unsigned,
-    };
+    let known = known_of(alloc, chain)?;
     first_refused(alloc, own, &known, redact)
 }
 

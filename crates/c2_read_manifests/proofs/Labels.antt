@@ -1,5 +1,5 @@
 -- The manifests of a store have different labels.
-use Rattle.std.proofs.Common.{◌≡◌, ℕ, zero, suc, ◌<◌, Bool, true, false, cond, List, [], ◌∷◌, length, get_or, map, filter, Option, Some, None, unwrap_or, slice_get, refl, sym, ap, ◌∙◌, arith}
+use Rattle.std.proofs.Common.{◌≡◌, ℕ, zero, suc, Bool, true, false, cond, List, [], ◌∷◌, map, filter, Option, Some, None, unwrap_or, slice_get, refl, sym, ap, ◌∙◌}
 use Rattle.std.specs.List.{AllByRecursion}
 use Rattle.std.specs.Option.{option_map}
 use Rattle.std.proofs.lemmas.Option.{same_Some, slice_get-map, slice_get_within, get_or_from_slice_get}
@@ -10,28 +10,13 @@ use Rattle.c2_spec.specs.declared.store.ManifestBoxes.{ManifestBoxes}
 use Rattle.c2_rules.specs.Chains.{LabelsDiffer, label_in}
 use Rattle.c2_rules.specs.Readings.{Reading, IsReading, AreReadings}
 use Rattle.c2_spec.proofs.JumbfBoxes.{some_box}
+use Rattle.c2_spec.proofs.DistinctLabels.{distinct_at}
 use Rattle.c2_spec.proofs.JumbfChildren.{distinct_children}
 use Rattle.c2_spec.proofs.LabelsOfManifests.{labelled}
-use Rattle.c2_lemmas.proofs.Each.{not_among, partner_at}
+use Rattle.c2_lemmas.proofs.Each.{partner_at}
 use Rattle.c2_spec.proofs.Openings.{new_filtered}
 
 -- ---- lists of different labels
-
--- a label that is new to a list stands at none of its places
-new_among : (label : List ℕ) (o : Option (List ℕ)) (os : List (Option (List ℕ))) (n : ℕ) → IsNewLabel o os
-    → o ≡ Some label → n < length os → get_or os n None ≡ Some label → ⊥
-new_among label None os n h e l k = cc (e)
-new_among label (Some t) os n h e l k = not_among t os n h l (k ∙ sym e)
-
--- in a list of different labels, two places that hold the same label are one
-distinct_at : (label : List ℕ) (os : List (Option (List ℕ))) (m n : ℕ) → AreDistinctLabels os → m < length os
-    → n < length os → get_or os m None ≡ Some label → get_or os n None ≡ Some label → m ≡ n
-distinct_at label [] m n h l k d e = absurd (omega (arith, l))
-distinct_at label (o ∷ os) zero zero h l k d e = refl
-distinct_at label (o ∷ os) zero (suc n) h l k d e = absurd (new_among label o os n h.0 d (omega arith) e)
-distinct_at label (o ∷ os) (suc m) zero h l k d e = absurd (new_among label o os m h.0 e (omega arith) d)
-distinct_at label (o ∷ os) (suc m) (suc n) h l k d e =
-    ap suc (distinct_at label os m n h.1 (omega arith) (omega arith) d e)
 
 -- some of them are different still
 kept_all : (f : ℕ → Option (List ℕ)) (p : ℕ → Bool) (P : Option (List ℕ) → Type 0) (xs : List ℕ)

@@ -3,7 +3,6 @@ pub mod KeepingLemmas
 pub mod Labels
 pub mod Messages
 pub mod NamedLemmas
-pub mod OneReading
 pub mod ParsingLemmas
 pub mod ReadClaims
 pub mod RedactLemmas

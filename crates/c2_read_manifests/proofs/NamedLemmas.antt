@@ -1,7 +1,5 @@
 -- The places of manifests by their labels.
-use Rattle.std.proofs.Common.{◌≡◌, ℕ, ◌<◌, Bool, List, length, map, take, Option, Some, position, sym, ap, ◌∙◌, arith}
-use Rattle.std.specs.List.{position_from}
-use Rattle.std.proofs.lemmas.Iterator.Adapters.{position_from-zero}
+use Rattle.std.proofs.Common.{◌≡◌, ℕ, ◌<◌, List, length, map, take, Option, Some, position, sym, ap, ◌∙◌, arith}
 use Rattle.std.proofs.lemmas.List.{length-take-le, length-map}
 use Rattle.std.proofs.Math.Seq.{take-length}
 use Rattle.c2_spec.specs.C2pa.Manifest.{is_given}
@@ -10,17 +8,11 @@ use Rattle.c2_label_index.specs.declared.places.Places.{Places}
 use Rattle.c2_rules.specs.Chains.{label_in}
 use Rattle.c2_rules.specs.Readings.{Reading}
 use Rattle.c2_read_manifests.specs.Named.{FindsPlaces}
-use Rattle.c2_lemmas.proofs.Lists.{position_from_map}
+use Rattle.c2_lemmas.proofs.Lists.{position_map}
 
 -- the labels of manifests, each of which has one
 abbrev pub labels_of : List Reading → List (Option (List ℕ))
 labels_of rs = map (λ (r : Reading). Some (label_in r)) rs
-
--- the first place whose image passes a test is the first place in the mapped list that passes it
-position_map : {X Y : Type 0} (f : X → Y) (p : Y → Bool) (xs : List X)
-    → position p (map f xs) ≡ position (λ x. p (f x)) xs
-position_map f p xs =
-    position_from-zero p (map f xs) ∙ position_from_map f p 0 xs ∙ sym (position_from-zero (λ x. p (f x)) xs)
 
 -- so many labels were added
 pub so_many : (rs : List Reading) (i : ℕ) → i < length rs → i ≡ length (labels_of (take i rs))

@@ -12,9 +12,9 @@ use Rattle.c2_rules.specs.Questions.{HasQuestion, IsQuestionOf, is_signature_uri
 use Rattle.c2_rules.specs.Readings.{IsParsed, IsMessageOf, Reading, IsReading, value_in, claim_in, names_signature, asked_of, question_in, signature_item}
 use Rattle.c2_rules.specs.declared.parsed.Parsed.{Parsed}
 use Rattle.c2_rules.specs.declared.parsed.Parsed.TheVariants.{NoItem, NoForm, Value}
-use Rattle.c2_read_manifests.proofs.OneReading.{one_parsed, one_message}
 use Rattle.c2_lemmas.proofs.Bools.{and_true, both_true}
 use Rattle.c2_rules.proofs.OneAnswer.{message_of}
+use Rattle.c2_rules.proofs.OneReading.{one_message_of, one_parsed}
 
 -- ---- the claim
 
@@ -48,7 +48,7 @@ claim_read m r h = claim_parsed m (claim_bytes m.claims) r.claim refl h.claim
 read_message : (o : Option (List ℕ)) (p : Option SignParts) (bytes : List ℕ) (q : SignParts) → IsMessageOf o p
     → o ≡ Some bytes → SpellsMessage bytes q → p ≡ Some q
 read_message o p bytes q read at is =
-    one_message (Some bytes) p (Some q) (subst (λ (x : Option (List ℕ)). IsMessageOf x p) at read) is
+    one_message_of (Some bytes) p (Some q) (subst (λ (x : Option (List ℕ)). IsMessageOf x p) at read) is
 
 -- where a manifest has a question, it is the one that follows from what was read
 only_question : (m : Manifest) (r : Reading) (q : Question) → IsReading m r → HasQuestion m q → question_in r ≡ Some q

@@ -1,50 +1,25 @@
 -- Rows that are made from the first manifest up say what is reached.
-use Rattle.std.proofs.Common.{◌≡◌, ◌⊎◌, inl, inr, ℕ, zero, suc, ◌+◌, ◌<◌, nat_eq, Bool, false, ◌||◌, List, [], ◌∷◌, ◌++◌, length, map, Contains, slice_index_or, slice_get, get_or, Option, Some, option_map, refl, sym, ap, ap₂, ◌∙◌, subst, arith}
+use Rattle.std.proofs.Common.{◌≡◌, ◌⊎◌, inl, inr, ℕ, zero, suc, ◌+◌, ◌<◌, nat_eq, Bool, false, ◌||◌, List, [], ◌∷◌, ◌++◌, length, map, slice_index_or, slice_get, get_or, Option, Some, option_map, refl, sym, ap, ◌∙◌, subst, arith}
 use Rattle.std.specs.List.{list_any, range_with_len}
 use Rattle.c2_rules.specs.Chains.{children, reaches, reaches_within}
 use Rattle.c2_rules.specs.Readings.{Reading, claim_in}
 use Rattle.c2_spec.specs.declared.claim.Claim.{Claim}
 use Rattle.std.proofs.lemmas.Option.{slice_get-map, slice_get-get_or}
-use Rattle.c2_rules.proofs.ListLemmas.{contains_head, contains_tail}
-use Rattle.c2_rules.proofs.ReachLemmas.{child_is}
+use Rattle.c2_rules.proofs.ListLemmas.{any_same}
+use Rattle.c2_rules.proofs.ReachLemmas.{child_earlier, steps_same}
 use Rattle.c2_read_manifests.specs.Rows.{bit, row_bits, AreRowsBelow}
-
--- two tests that agree on every member of a list agree on whether one of them passes
-any_same : (f g : ℕ → Bool) (xs : List ℕ) → ((x : ℕ) → Contains xs x → f x ≡ g x) → list_any f xs ≡ list_any g xs
-any_same f g [] same = refl
-any_same f g (x ∷ xs) same =
-    ap₂ (λ (a b : Bool). a || b) (same x (contains_head x xs))
-    (any_same f g xs (λ y c. same y (contains_tail x y xs c)))
-
--- the children of a manifest stand before it
-child_earlier : (rs : List Reading) (n c : ℕ) → Contains (children rs n) c → c < n
-child_earlier rs n c there = (child_is rs n c there).earlier
-
--- more steps than the place has reach no more
-same_below : (rs : List Reading) (s t c n m : ℕ) → c < n
-    → ((d : ℕ) → d < n → reaches_within rs s d m ≡ reaches_within rs t d m)
-    → (nat_eq c m || reaches_within rs s c m) ≡ (nat_eq c m || reaches_within rs t c m)
-same_below rs s t c n m lt same = ap (λ (b : Bool). nat_eq c m || b) (same c lt)
-
--- what a manifest reaches within more steps than its place is the same for every such number of steps
-enough : (rs : List Reading) (s t n m : ℕ) → n < s → n < t → reaches_within rs s n m ≡ reaches_within rs t n m
-enough rs zero t n m few many = absurd (omega arith)
-enough rs (suc s) zero n m few many = absurd (omega arith)
-enough rs (suc s) (suc t) n m few many =
-    any_same (λ c. nat_eq c m || reaches_within rs s c m) (λ c. nat_eq c m || reaches_within rs t c m) (children rs n)
-    (λ c there. same_below rs s t c n m (child_earlier rs n c there) (λ d lt. enough rs s t d m (omega arith) (omega arith)))
 
 -- the rows before say what is reached from children
 row_says : (rs : List Reading) (k m : ℕ) (rows : List (List Bool)) → AreRowsBelow rs k rows → m < length rs
     → list_any (λ c. nat_eq c m || bit rows c m) (children rs k) ≡ reaches rs k m
 row_says rs k m rows h inside =
     let steps : suc k ≡ k + 1 = omega arith in
-    any_same (λ c. nat_eq c m || bit rows c m) (λ c. nat_eq c m || reaches_within rs k c m) (children rs k)
+    any_same (λ (c : ℕ). nat_eq c m || bit rows c m) (λ (c : ℕ). nat_eq c m || reaches_within rs k c m) (children rs k)
     (λ c there. same c (child_earlier rs k c there))
     ∙ ap (λ (n : ℕ). reaches_within rs n k m) steps
   where
     same : (c : ℕ) → c < k → (nat_eq c m || bit rows c m) ≡ (nat_eq c m || reaches_within rs k c m)
-    same c lt = ap (λ (b : Bool). nat_eq c m || b) (h.says c m lt inside ∙ enough rs (c + 1) k c m (omega arith) lt)
+    same c lt = ap (λ (b : Bool). nat_eq c m || b) (h.says c m lt inside ∙ steps_same rs (c + 1) k c m (omega arith) lt)
 
 -- ---- lists by their places
 

@@ -4,18 +4,20 @@ use Rattle.c2_cbor_spec.proofs.TheLaws.{each_list_is_an_item_or_not_one as read_
 use Rattle.c2_read_manifests.proofs.Existing.{each_manifest}
 use Rattle.c2_read_manifests.proofs.Labels.{labels_differ}
 use Rattle.c2_read_manifests.proofs.Messages.{each_question}
-use Rattle.c2_read_manifests.proofs.OneReading.{one_list_of_readings, one_reading, one_store}
 use Rattle.c2_read_manifests.proofs.ReadClaims.{claim_read, question_read}
 use Rattle.c2_read_manifests.proofs.SomeReading.{item_or, readings_or}
 use Rattle.c2_read_manifests.proofs.Unique.{one_claim as one_claim_by, one_list_of_claims as one_list_of_claims_by, one_question as one_question_by}
 use Rattle.c2_read_manifests.specs.Existing.{IsHeld}
 use Rattle.c2_read_manifests.specs.Held.{IsHeldManifest}
+use Rattle.c2_rules.proofs.OneMedia.{one_file_reading}
+use Rattle.c2_rules.proofs.OneReading.{one_list_of_readings, one_reading, one_store}
 use Rattle.c2_rules.specs.Binding.{IsItemOf, Media}
 use Rattle.c2_rules.specs.Chains.{LabelsDiffer}
 use Rattle.c2_rules.specs.CheckList.{IsStoreReading, StoreReading}
 use Rattle.c2_rules.specs.Claims.{HaveClaims}
 use Rattle.c2_rules.specs.Questions.{HasQuestion, IsQuestionOf}
 use Rattle.c2_rules.specs.Readings.{AreReadings, IsReading, Reading, claim_in, question_in}
+use Rattle.c2_rules.specs.Validated.{IsFileReading}
 use Rattle.c2_spec.specs.C2pa.Manifest.{HasClaim, Manifest, Superbox, claim_bytes, manifests_of, store_refusal}
 use Rattle.c2_spec.specs.Cbor.Fields.{HasItem, IsUnread}
 use Rattle.c2_spec.specs.Cbor.Item.{Item}
@@ -97,3 +99,8 @@ each_store_is_read_manifests = readings_or
 pub each_store_is_read_binding : (payload : Option (List ℕ)) → IfSome payload IsHeld
     → (v : Option Item) × IsItemOf payload v
 each_store_is_read_binding = item_or
+
+-- what is read of the store of a file is one
+pub one_reading_file : (file : List ℕ) (t : Tree) (a b : StoreReading) → IsFileReading file t a → IsFileReading file t b
+    → a ≡ b
+one_reading_file = one_file_reading one_reading_store

@@ -6,3 +6,4 @@ pub mod Parsing
 pub mod Placed
 pub mod Redacted
 pub mod Rows
+pub mod Signed

@@ -1,14 +1,16 @@
 // What is kept of a manifest, read from its boxes.
 ghost use Rattle.std.specs.Prelude.{◌≡◌, ◌<◌, All, IfOk, IfSome, Some, length, map, slice_get, option_map, option_and_then};
+ghost use Rattle.std.specs.List.{AllZip};
 ghost use Rattle.c2_spec.specs.Cbor.View.{view};
 ghost use Rattle.c2_spec.specs.C2pa.Claim.{claim_of};
 ghost use Rattle.c2_spec.specs.Jumbf.Boxes.{tree_count};
 ghost use Rattle.c2_spec.specs.C2pa.Manifest as form;
 ghost use Rattle.c2_spec.specs.C2pa.Manifest.{Superbox, IsStoreOf, superbox_at};
 ghost use Rattle.c2_spec.specs.C2pa.Sign1.{IsHeader, parts_of};
-ghost use Rattle.c2_rules.specs.Readings.{IsParsed, IsMessageOf, IsReading, AreReadings};
+ghost use Rattle.c2_rules.specs.Readings.{IsParsed, IsMessageOf, IsReadBox, IsReading, AreReadings};
+ghost use Rattle.c2_read_manifests.specs.Signed.{IsSigned};
 
-use crate::kept::{ReadManifest, StoreBox};
+use crate::kept::{AssertionBox, ReadManifest, StoreBox};
 use crate::reading::{read_boxes, read_claim, read_message, store_box};
 use c2_base::NoMemory;
 use c2_claim::claim_version;
@@ -128,6 +130,61 @@ fn some_box<'t>(tree: &'t Tree<'_>, k: Option<usize>) -> Option<StoreBox<'t>>
     }
 }
 
+/// What is read of the claim and of the signature of a manifest.
+#[derive(Drop)]
+struct Signed<'t> {
+    claims: Vec<StoreBox<'t>>,
+    signature: Option<StoreBox<'t>>,
+    claim: Parsed<Claim>,
+    message: Option<Sign1>,
+}
+
+/// What is read of the claim and of the signature of the manifest that has these boxes in the tree.
+fn read_signed<'t>(
+    alloc: Global,
+    tree: &'t Tree<'_>,
+    own: &ManifestBoxes,
+) -> Result<Signed<'t>, NoMemory>
+    requires claims { All (λ k. k < tree_count tree.now) own.now.claims }
+    requires signature { IfSome own.now.signature (λ k. k < tree_count tree.now) }
+    ensures { IfOk result (IsSigned tree.now own.now) }
+{
+    let claims = store_boxes(alloc, tree, own.claims.as_slice())?;
+    let signature = some_box(tree, own.signature);
+    let claim = read_claims(alloc, &claims)?;
+    let message = read_signature(alloc, &signature)?;
+    Ok(Signed {
+        claims,
+        signature,
+        claim,
+        message,
+    })
+}
+
+/// A manifest of what is read of its claim and its signature, and of its assertion boxes.
+fn kept_of<'t>(
+    tree: &'t Tree<'_>,
+    own: &ManifestBoxes,
+    signed: Signed<'t>,
+    boxes: Vec<AssertionBox<'t>>,
+) -> ReadManifest<'t>
+    requires whole { own.now.whole < tree_count tree.now }
+    requires signed { IsSigned tree.now own.now signed }
+    requires boxes { AllZip IsReadBox (map (superbox_at tree.now) own.now.assertions) boxes.items }
+    ensures { IsReading (form.manifest_at tree.now own.now) result }
+{
+    ReadManifest {
+        label: label_of(tree, own.whole),
+        contents: contents(tree, own.whole),
+        is_update: own.is_update,
+        claims: signed.claims,
+        signature: signed.signature,
+        claim: signed.claim,
+        message: signed.message,
+        boxes,
+    }
+}
+
 /// What is kept of the manifest that has these boxes in the tree.
 fn keep<'t>(
     alloc: Global,
@@ -140,25 +197,9 @@ fn keep<'t>(
     requires assertions { All (λ k. k < tree_count tree.now) own.now.assertions }
     ensures { IfOk result (λ r. IsReading (form.manifest_at tree.now own.now) r) }
 {
-    let name = label_of(tree, own.whole);
-    let bytes = contents(tree, own.whole);
-    let claims = own.claims.as_slice();
-    let claim_boxes = store_boxes(alloc, tree, claims)?;
-    let signature_box = some_box(tree, own.signature);
-    let claim = read_claims(alloc, &claim_boxes)?;
-    let message = read_signature(alloc, &signature_box)?;
-    let assertions = own.assertions.as_slice();
-    let boxes = read_boxes(alloc, tree, assertions)?;
-    Ok(ReadManifest {
-        label: name,
-        contents: bytes,
-        is_update: own.is_update,
-        claims: claim_boxes,
-        signature: signature_box,
-        claim,
-        message,
-        boxes,
-    })
+    let signed = read_signed(alloc, tree, own)?;
+    let boxes = read_boxes(alloc, tree, own.assertions.as_slice())?;
+    Ok(kept_of(tree, own, signed, boxes))
 }
 
 /// What is kept of a manifest of a store.

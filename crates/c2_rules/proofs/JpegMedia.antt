@@ -1,12 +1,10 @@
 -- A file whose segments begin a JPEG is no BMFF file, so it comes to what it does as a JPEG.
-use Rattle.std.proofs.Common.{◌≡◌, ℕ, true, false, List, sym, ap, subst, refl}
-use Rattle.std.specs.Bool.{MatchBool}
-use Rattle.c2_spec.specs.Bmff.Store.{IsBmffLocated}
+use Rattle.std.proofs.Common.{◌≡◌, ℕ, true, false, List, ap, refl}
 use Rattle.c2_spec.specs.Container.{IsLocated, begins_jpeg, is_bmff, jpeg as jpeg_container}
-use Rattle.c2_spec.specs.Jpeg.Store as jpeg
 use Rattle.c2_spec.specs.Jpeg.Store.{HasJpegStore}
 use Rattle.c2_spec.specs.Jpeg.Segments.{Segment, HasSegments}
-use Rattle.c2_spec.specs.Located.{Located, here}
+use Rattle.c2_spec.specs.Located.{here}
+use Rattle.c2_spec.proofs.JpegLocated.{as_jpeg}
 use Rattle.c2_rules.specs.Binding.{Media, IsMedia}
 
 -- a file of segments doesn't begin as a BMFF file
@@ -26,14 +24,6 @@ jpeg_media file = record { bytes = file; container = jpeg_container }
 -- a file that begins as a JPEG is media of that kind
 pub is_jpeg_media : (file : List ℕ) → begins_jpeg file ≡ true → IsMedia file (jpeg_media file)
 is_jpeg_media file e = record { bytes = refl; container = e }
-
--- what a JPEG has as its store is what the file has, where it is no BMFF file
-pub as_jpeg : (file : List ℕ) (what : Located) → is_bmff file ≡ false → jpeg.IsLocated file what → IsLocated file what
-as_jpeg file what e h = subst (λ b. MatchBool b (IsBmffLocated file what) (jpeg.IsLocated file what)) (sym e) h
-
--- what such a file has as its store is what the JPEG has
-pub of_jpeg : (file : List ℕ) (what : Located) → is_bmff file ≡ false → IsLocated file what → jpeg.IsLocated file what
-of_jpeg file what e h = subst (λ b. MatchBool b (IsBmffLocated file what) (jpeg.IsLocated file what)) e h
 
 -- a file with a store of a JPEG is no BMFF file
 pub store_no_bmff : (file : List ℕ) (start len : ℕ) (store : List ℕ) → HasJpegStore file start len store

@@ -11,7 +11,9 @@ pub mod ItemCode
 pub mod JpegMedia
 pub mod ListLemmas
 pub mod OneAnswer
+pub mod OneBoxTree
 pub mod OneMedia
+pub mod OneReading
 pub mod OpenedStore
 pub mod ReachLemmas
 pub mod SeenLemmas

@@ -1,5 +1,5 @@
 -- The tests on children and on what is reached, redacted and touched decide the relations, where manifests have different labels.
-use Rattle.std.proofs.Common.{◌≡◌, ◌⊎◌, inl, inr, ◌↔◌, ℕ, zero, suc, ◌+◌, ◌-◌, ◌<◌, ltb, eqb, Bool, true, false, cond, ◌&&◌, ◌||◌, List, [], ◌∷◌, length, get_or, Option, Some, None, slice_get, position, bytes_eq, Contains, option_and_then, Decides, refl, sym, ap, ◌∙◌, subst, arith}
+use Rattle.std.proofs.Common.{◌≡◌, ◌⊎◌, inl, inr, ◌↔◌, ℕ, zero, suc, ◌+◌, ◌-◌, ◌<◌, ltb, eqb, nat_eq, Bool, true, false, cond, ◌&&◌, ◌||◌, List, [], ◌∷◌, length, get_or, Option, Some, None, slice_get, position, bytes_eq, Contains, option_and_then, Decides, refl, sym, ap, ◌∙◌, subst, arith}
 use Rattle.std.specs.List.{position_or_len}
 use Rattle.std.proofs.lemmas.List.Quantifiers.{position-Some}
 use Rattle.std.proofs.lemmas.List.Sums.{position_or_len_is}
@@ -15,7 +15,7 @@ use Rattle.c2_rules.specs.Chains.{reaches, is_active, is_reached, assertion_labe
 use Rattle.c2_rules.specs.Chains.Reaches.{child, through}
 use Rattle.c2_rules.specs.Chains.Reached.{active, below}
 use Rattle.c2_rules.specs.Readings.{ReadBox, Reading, entries_in, redactions_in}
-use Rattle.c2_rules.proofs.ListLemmas.{contains_none, from_filter_map, in_filter_map, from_any, in_any, or_left, from_and_then, from_passes, from_below, in_below}
+use Rattle.c2_rules.proofs.ListLemmas.{contains_none, from_filter_map, in_filter_map, from_any, in_any, or_left, from_and_then, from_passes, from_below, in_below, any_same}
 use Rattle.c2_lemmas.proofs.Bools.{and_true, both_true, never_true_is_false, or_cases, or_second}
 use Rattle.c2_lemmas.proofs.Options.{if_before}
 
@@ -289,3 +289,25 @@ touched_decides rs differ m = (sound, complete)
         ap (lists_redacted rs m) h.at_place
         ∙ in_any (λ (e : Ref). passes_some (is_redacted rs m) (entry_label h.touched.manifest e))
         (entries_in h.touched) h.entry h.lists passes
+
+-- ---- steps
+
+-- the children of a manifest stand before it
+pub child_earlier : (rs : List Reading) (n c : ℕ) → Contains (children rs n) c → c < n
+child_earlier rs n c there = (child_is rs n c there).earlier
+
+-- more steps than the place has reach no more
+same_below : (rs : List Reading) (s t c n m : ℕ) → c < n
+    → ((d : ℕ) → d < n → reaches_within rs s d m ≡ reaches_within rs t d m)
+    → (nat_eq c m || reaches_within rs s c m) ≡ (nat_eq c m || reaches_within rs t c m)
+same_below rs s t c n m lt same = ap (λ (b : Bool). nat_eq c m || b) (same c lt)
+
+-- what a manifest reaches within more steps than its place is the same for every such number of steps
+pub steps_same : (rs : List Reading) (s t n m : ℕ) → n < s → n < t → reaches_within rs s n m ≡ reaches_within rs t n m
+steps_same rs zero t n m few many = absurd (omega arith)
+steps_same rs (suc s) zero n m few many = absurd (omega arith)
+steps_same rs (suc s) (suc t) n m few many =
+    any_same (λ (c : ℕ). nat_eq c m || reaches_within rs s c m) (λ (c : ℕ). nat_eq c m || reaches_within rs t c m)
+    (children rs n)
+    (λ c there. same_below rs s t c n m (child_earlier rs n c there)
+    (λ d lt. steps_same rs s t d m (omega arith) (omega arith)))

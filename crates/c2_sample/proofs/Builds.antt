@@ -1,5 +1,5 @@
 -- What is built in memory, by what the build answers; and what is asked of it.
-use Rattle.std.proofs.Common.{◌≡◌, ◌∙◌, sym, ap, subst, ℕ, Bool, true, List, [], ◌++◌, map, Option, Some, true≢false}
+use Rattle.std.proofs.Common.{◌≡◌, ◌∙◌, refl, sym, ap, subst, ℕ, Bool, true, List, [], ◌++◌, length, map, Option, Some, true≢false}
 use Rattle.std.specs.Prelude.{IfOk}
 use Rattle.std.specs.declared.result.Result.{Result}
 use Rattle.std.specs.declared.result.Result.TheVariants.{Ok, Err}
@@ -16,9 +16,11 @@ use Rattle.c2_build_refusals.specs.declared.types.Embedded.{Embedded}
 use Rattle.c2_build_plain.specs.Answers.{EmbedsFile, Writes, file_of}
 use Rattle.c2_build_plain.specs.Building.{Built, IsEmbedded}
 use Rattle.c2_build_plain.specs.Meeting.{OneEmbedding}
-use Rattle.c2_sample.specs.Sample.{BuildAsks, IsNewFile, SampleAsks, is_refusal, no_judges, sample_definition, sample_media, sample_message}
+use Rattle.c2_sample.specs.Sample.{BuildAsks, IsFileSampled, IsNewFile, IsSampled, SampleAsks, is_refusal, no_judges, sample_definition, sample_media, sample_message}
 use Rattle.c2_sample.specs.declared.building.NewFile.{NewFile}
 use Rattle.c2_sample.specs.declared.building.NewFile.TheVariants as new
+use Rattle.c2_sample.specs.declared.types.Sampled.{Sampled}
+use Rattle.c2_sample.specs.declared.types.Sampled.TheVariants.{Refused}
 
 -- ---- the file
 
@@ -65,6 +67,27 @@ pub refused_file : (hash : Alg → List ℕ → List ℕ) (media : List ℕ) (e 
 refused_file hash media e (Ok file) h is =
     subst (IsNewFile hash media) (sym is.1) (kind_comes (kind_of e) (IsMade hash media (Err e)) is.0 h)
 refused_file hash media e (Err out) h is = tt
+
+-- ---- what it comes to
+
+-- a file that is built comes to what its check answers
+pub built_sampled :
+    (hash : Alg → List ℕ → List ℕ) (said : Question → Verdict) (n : ℕ) (media file : List ℕ) (len : ℕ) (s : Sampled)
+    → media ≡ sample_media n → len ≡ length media → IsNewFile hash media (new.Built file)
+    → IsFileSampled hash said len file s → IsSampled hash said n s
+built_sampled hash said n media file len s is counted built found = (
+  Ok built.0,
+  subst (λ (m : List ℕ). IsEmbedded hash no_judges m sample_definition sample_message (Ok built.0)) is built.1,
+  subst (λ (k : ℕ). IsFileSampled hash said k built.0.file s) (counted ∙ ap length is)
+      (subst (λ (f : List ℕ). IsFileSampled hash said len f s) built.2 found),
+)
+
+-- where nothing is built, a sample comes to what is refused
+pub refused_sampled :
+    (hash : Alg → List ℕ → List ℕ) (said : Question → Verdict) (n : ℕ) (media : List ℕ) (e : BuildError)
+    → media ≡ sample_media n → IsNewFile hash media (new.Refused e) → IsSampled hash said n (Refused e)
+refused_sampled hash said n media e is refused =
+    (Err e, subst (λ (m : List ℕ). IsEmbedded hash no_judges m sample_definition sample_message (Err e)) is refused, refl)
 
 -- ---- what is asked
 

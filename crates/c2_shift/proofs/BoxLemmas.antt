@@ -21,7 +21,8 @@ use Rattle.c2_bmff_chunks.specs.Tables.{StandApart, fields_len, inner, is_table,
 use Rattle.c2_bmff_chunks.specs.declared.table.ChunkTable.{ChunkTable}
 use Rattle.c2_bmff_chunks.specs.declared.table.ShiftError.{ShiftError}
 use Rattle.c2_bmff_chunks.specs.declared.table.ShiftError.TheVariants.{OffsetTable, BadTree, BadTable, Overflow, ReadFault, NoMemory}
-use Rattle.c2_bmff_chunks.proofs.ApartLemmas.{payload_size, stand_append}
+use Rattle.c2_bmff_chunks.proofs.ApartLemmas.{stand_append}
+use Rattle.c2_bmff_rows.proofs.StandLemmas.{payload_size}
 use Rattle.c2_shift.specs.Causes.{IsTablesCause, OrShiftFault}
 use Rattle.c2_shift.specs.Walking.{FillsBox, IsFirstKind, LieIn, Skips}
 use Rattle.c2_shift.proofs.PartLemmas.{first_of}

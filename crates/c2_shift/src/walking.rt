@@ -1,8 +1,9 @@
 // The chunk tables of a file.
-ghost use Rattle.std.specs.Prelude.{◌≡◌, ◌+◌, ◌<◌, [], ◌++◌, All, IfOk, IfErr, OnOk, Some, None};
+ghost use Rattle.std.specs.Prelude.{◌≡◌, ◌+◌, ◌<◌, [], ◌++◌, ℕ, All, IfOk, IfErr, OnOk, Some, None};
 ghost use Rattle.std.specs.Option.{ForSome};
 ghost use Rattle.c2_base.specs.Source.{ReadsSource};
 ghost use Rattle.c2_bmff_rows.specs.Rows.{IsBoxWithin, IsRowWithin};
+ghost use Rattle.c2_bmff_boxes.specs.Causes.{IsBmffCaused, OrBmffFault};
 ghost use Rattle.c2_bmff_boxes.specs.Roots.{FillSource};
 ghost use Rattle.c2_bmff_chunks.specs.Refusals.{IsFirstRefusal, is_other_table, refusals_below, root_refusals, shift_refusals};
 ghost use Rattle.c2_bmff_chunks.specs.Tables.{StandApart, chunk_tables, inner, tables_below};
@@ -69,6 +70,31 @@ fn skip_others<'r>(rows: &'r [RootBox], kind: [u8; 4]) -> &'r [RootBox]
     rest
 }
 
+// The error of a list of boxes as one of a shift: that the source failed, or that memory ran out.
+fn list_error(error: MediaError) -> ShiftError
+    requires { OrBmffFault error ⊥ }
+    ensures outside { OrShiftFault result ⊥ }
+    ensures cause { (len before now : ℕ) → IsBmffCaused before now error
+        → IsTablesCause len before now result }
+{
+    match error {
+        MediaError::ReadFault => ShiftError::ReadFault,
+        MediaError::NoMemory => ShiftError::NoMemory,
+        // No other error comes.
+        MediaError::NotMedia
+        | MediaError::FileTooLarge(_)
+        | MediaError::Truncated(_)
+        | MediaError::BadMarker(_)
+        | MediaError::BadSegment(_)
+        | MediaError::BadPacket(_)
+        | MediaError::TwoStores(_)
+        | MediaError::BadBox(_)
+        | MediaError::BadProvenanceBox(_)
+        | MediaError::StoreTooLarge(_)
+        | MediaError::TooManyBoxes => unreachable!(),
+    }
+}
+
 // The list of boxes inside the one of this row; refuses a box that no such list fills.
 fn inner_boxes<S: Source>(alloc: Global, source: &mut S, row: RootBox) -> Result<Roots, ShiftError>
     requires inside { IsRowWithin (S.len source.old) row }
@@ -86,22 +112,7 @@ fn inner_boxes<S: Source>(alloc: Global, source: &mut S, row: RootBox) -> Result
     match boxes_between(alloc, source, start, end) {
         Ok(Some(list)) => Ok(list),
         Ok(None) => Err(ShiftError::BadTree(row.start)),
-        Err(MediaError::ReadFault) => Err(ShiftError::ReadFault),
-        Err(MediaError::NoMemory) => Err(ShiftError::NoMemory),
-        // No other error comes.
-        Err(
-            MediaError::NotMedia
-            | MediaError::FileTooLarge(_)
-            | MediaError::Truncated(_)
-            | MediaError::BadMarker(_)
-            | MediaError::BadSegment(_)
-            | MediaError::BadPacket(_)
-            | MediaError::TwoStores(_)
-            | MediaError::BadBox(_)
-            | MediaError::BadProvenanceBox(_)
-            | MediaError::StoreTooLarge(_)
-            | MediaError::TooManyBoxes,
-        ) => unreachable!(),
+        Err(error) => Err(list_error(error)),
     }
 }
 

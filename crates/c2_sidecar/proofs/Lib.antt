@@ -1,4 +1,5 @@
 mod Answering
+mod Beside
 mod Extraction
 mod Locating
 pub mod TheLaws

@@ -3,7 +3,7 @@ use Rattle.std.proofs.Common.{◌≡◌, ℕ, List, Option, Some, None, IfSome, 
 use Rattle.c2_base.specs.declared.media.Found.{Found}
 use Rattle.c2_base.specs.declared.media.MediaError.{MediaError}
 use Rattle.c2_spec.specs.Container.{IsLocated}
-use Rattle.c2_spec.specs.Located.{Located, refused, absent, here, refusal, as_located}
+use Rattle.c2_spec.specs.Located.{Located, refused, refusal, as_located}
 use Rattle.c2_spec.specs.declared.reason.Reason.{Reason}
 use Rattle.c2_container.specs.Contained.{IsSaid}
 use Rattle.c2_container.specs.declared.types.Contained.{Contained}
@@ -12,15 +12,6 @@ use Rattle.c2_container.specs.declared.types.Contained.{Contained}
 pub said_refused : (file : List ℕ) (e : MediaError) (reason : Reason) (number : ℕ) → IsSaid file (Err e)
     → refusal e ≡ Some (refused reason number) → IsLocated file (refused reason number)
 said_refused file e reason number h is = subst (λ (o : Option Located). IfSome o (IsLocated file)) is h.located
-
--- a store that was found in a file
-pub said_here : (file : List ℕ) (c : Contained) (f : Found) → IsSaid file (Ok c) → c.found ≡ Some f
-    → IsLocated file (here f.start f.length f.store)
-said_here file c f h is = subst (λ (o : Option Found). IfSome (as_located (Ok o)) (IsLocated file)) is h.located
-
--- a file in which no store was found has none
-pub said_none : (file : List ℕ) (c : Contained) → IsSaid file (Ok c) → c.found ≡ None → IsLocated file absent
-said_none file c h is = subst (λ (o : Option Found). IfSome (as_located (Ok o)) (IsLocated file)) is h.located
 
 -- a file whose container was read isn't refused
 pub unrefused : (file : List ℕ) (c : Contained) (reason : Reason) (number : ℕ) → IsSaid file (Ok c)

@@ -70,7 +70,7 @@ tag_is n v p true is e =
 tag_is n v p false is e = absurd (let wrong = e in cc (wrong))
 
 -- an item that has parts once its tag is off, where it has one, is a message
-message_of : (v : Item) (p : SignParts) → parts_in_list (untagged v) ≡ Some p → IsMessage v p
+pub message_of : (v : Item) (p : SignParts) → parts_in_list (untagged v) ≡ Some p → IsMessage v p
 message_of (tag n v) p e = tag_is n v p (n == 18) refl e
 message_of (list vs) p e = let own = items_are vs p e in record { header = own.0; form = inl own.1 }
 message_of v p e = absurd (let wrong = e in cc (wrong))
@@ -84,7 +84,7 @@ spelled_parts a u s (ps, is) =
     (sym is) refl
 
 -- a message has its parts once its tag is off, where it has one
-parts_of_message : (v : Item) (p : SignParts) → IsMessage v p → parts_in_list (untagged v) ≡ Some p
+pub parts_of_message : (v : Item) (p : SignParts) → IsMessage v p → parts_in_list (untagged v) ≡ Some p
 parts_of_message v p h = by_form h.form
   where
     by_form : (v ≡ message_list p) ⊎ (v ≡ tag 18 (message_list p)) → parts_in_list (untagged v) ≡ Some p

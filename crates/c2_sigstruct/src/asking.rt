@@ -51,14 +51,21 @@ pub fn written(alloc: Global, item: &Cbor) -> Result<Blob, NoMemory>
     }
 }
 
+// What a signature over a claim with this protected header signs: the bytes of the Sig_structure.
+fn signed_bytes(alloc: Global, protected: &[u8], claim: &[u8]) -> Result<Blob, NoMemory>
+    ensures { IfOk result (λ b. b ≡ deterministic (sig_structure protected.now claim.now)) }
+{
+    let structure = to_be_signed(alloc, protected, claim)?;
+    written(alloc, &structure)
+}
+
 /// What a judge is asked of a message over a claim: the deterministic bytes of the Sig_structure, the signature, and the
 /// deterministic bytes of the unprotected header (RFC 9052, section 4.4). `read_sign1` gives a header that can be written.
 pub fn question(alloc: Global, sign: &Sign1, claim: &[u8]) -> Result<Question, NoMemory>
     requires { IsHeader (view sign.now.unprotected) }
     ensures { IfOk result (λ q. q ≡ question_of (parts_of sign.now) claim.now) }
 {
-    let structure = to_be_signed(alloc, sign.protected.as_slice(), claim)?;
-    let tbs = written(alloc, &structure)?;
+    let tbs = signed_bytes(alloc, sign.protected.as_slice(), claim)?;
     let signature = Blob::copied(alloc, sign.signature.as_slice())?;
     let unprotected = written(alloc, &sign.unprotected)?;
     Ok(Question {

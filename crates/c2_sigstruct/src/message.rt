@@ -1,8 +1,8 @@
 // Taking a message apart.
-ghost use Rattle.std.specs.Prelude.{◌≡◌, option_map};
+ghost use Rattle.std.specs.Prelude.{◌≡◌, length, option_map};
 ghost use Rattle.c2_spec.specs.Cbor.View.{view, items_view};
 ghost use Rattle.c2_spec.specs.C2pa.Sign1.{parts_of};
-ghost use Rattle.c2_sigstruct.specs.Parts.{bytes_in, is_null_item, is_dict, untagged, parts_in_four, parts_in_items, parts_in_list};
+ghost use Rattle.c2_sigstruct.specs.Parts.{bytes_in, is_null_item, is_dict, untagged, parts_in_two, parts_in_items, parts_in_list};
 
 use c2_base::Blob;
 use c2_spec::{Cbor, Sign1};
@@ -56,16 +56,17 @@ pub fn untag(item: Cbor) -> Cbor
     }
 }
 
-// The message of these four members.
-fn of_four(protected: Cbor, unprotected: Cbor, payload: Cbor, signature: Cbor) -> Option<Sign1>
-    ensures { option_map parts_of result
-        ≡ parts_in_four (view protected) (view unprotected) (view payload) (view signature) }
+// The message with this signature whose other members are these two: its headers.
+fn of_headers(items: Vec<Cbor>, signature: Blob) -> Option<Sign1>
+    requires { length items.items ≡ 2 }
+    ensures { option_map parts_of result ≡ parts_in_two (items_view items.items) signature }
 {
-    if !is_map(&unprotected) || !is_null(&payload) {
+    let mut items = items;
+    let unprotected = items.pop()?;
+    if !is_map(&unprotected) {
         return None;
     }
-    let protected = into_bytes(protected)?;
-    let signature = into_bytes(signature)?;
+    let protected = into_bytes(items.pop()?)?;
     Some(Sign1 {
         protected,
         unprotected,
@@ -81,11 +82,11 @@ fn of_items(items: Vec<Cbor>) -> Option<Sign1>
         return None;
     }
     let mut items = items;
-    let signature = items.pop()?;
-    let payload = items.pop()?;
-    let unprotected = items.pop()?;
-    let protected = items.pop()?;
-    of_four(protected, unprotected, payload, signature)
+    let signature = into_bytes(items.pop()?)?;
+    if !is_null(&items.pop()?) {
+        return None;
+    }
+    of_headers(items, signature)
 }
 
 // The message that an item without its tag is.

@@ -1,9 +1,9 @@
 // Writing a message, with padding.
 ghost use Rattle.std.specs.Prelude.{◌≡◌, ◌+◌, length, replicate, IfOk, OnOk};
-ghost use Rattle.c2_spec.specs.Cbor.Item.{bytes, Pairs, no_pairs};
+ghost use Rattle.c2_spec.specs.Cbor.Item.{Pairs, no_pairs};
 ghost use Rattle.c2_spec.specs.Cbor.View.{view, pairs_view};
 ghost use Rattle.c2_spec.specs.C2pa.Sign1.{parts_of, SpellsMessage};
-ghost use Rattle.c2_spec.specs.C2pa.Message.{bare_bytes, pairs_then, with_entries, padded_bytes, padded_read, CanBePadded};
+ghost use Rattle.c2_spec.specs.C2pa.Message.{bare_bytes, pairs_then, tagged_message, with_entries, padded, padded_bytes, padded_read, CanBePadded};
 ghost use Rattle.c2_pad.specs.Fill.{zeros_before, fill_pairs, fill_cost};
 
 use crate::Sign1;
@@ -15,12 +15,12 @@ use c2_pad::types::Fill;
 use c2_spec::Cbor;
 use std::alloc::Global;
 
-// A byte string of so many zero bytes.
-fn zero_string(alloc: Global, zeros: u32) -> Result<Cbor, NoMemory>
-    ensures { IfOk result (λ x. view x ≡ bytes (replicate zeros 0)) }
+// So many zero bytes.
+fn zero_bytes(alloc: Global, zeros: u32) -> Result<Blob, NoMemory>
+    ensures { IfOk result (λ b. b ≡ replicate zeros 0) }
 {
     let bytes = vec![in alloc; 0u8; zeros as usize]?;
-    Ok(Cbor::Bytes(Blob::from_vec(bytes)))
+    Ok(Blob::from_vec(bytes))
 }
 
 // Puts an entry of zero bytes behind the others, where there is to be one.
@@ -34,9 +34,9 @@ fn push_zeros(
         ≡ pairs_then (pairs_view pairs.old.items) (zeros_before key.now zeros no_pairs)) }
 {
     if let Some(zeros) = zeros {
-        let name = Cbor::Text(Text::copied(alloc, key)?);
-        let value = zero_string(alloc, zeros)?;
-        pairs.push((name, value))?;
+        let name = Text::copied(alloc, key)?;
+        let value = zero_bytes(alloc, zeros)?;
+        pairs.push((Cbor::Text(name), Cbor::Bytes(value)))?;
     }
     Ok(())
 }
@@ -55,6 +55,15 @@ fn padded_header(alloc: Global, header: &Cbor, fill: Fill) -> Result<Cbor, NoMem
     }
 }
 
+// The item of the message with the tag 18, and with the entries of the fill in its unprotected header.
+fn padded_item(alloc: Global, sign: &Sign1, fill: Fill) -> Result<Cbor, NoMemory>
+    ensures { IfOk result (λ x. view x
+        ≡ tagged_message (padded (parts_of sign.now) (fill_pairs fill))) }
+{
+    let header = padded_header(alloc, &sign.unprotected, fill)?;
+    tagged_item(alloc, sign, header)
+}
+
 /// The deterministic bytes of the message with the tag 18, and with the entries of the fill in its unprotected header. They are
 /// read as the same message, but for these entries.
 pub fn write_sign1(alloc: Global, sign: &Sign1, fill: Fill) -> Result<Blob, NoMemory>
@@ -66,7 +75,6 @@ pub fn write_sign1(alloc: Global, sign: &Sign1, fill: Fill) -> Result<Blob, NoMe
     ensures again { IfOk result (λ b.
         SpellsMessage b (padded_read (parts_of sign.now) (fill_pairs fill))) }
 {
-    let header = padded_header(alloc, &sign.unprotected, fill)?;
-    let item = tagged_item(alloc, sign, header)?;
+    let item = padded_item(alloc, sign, fill)?;
     written(alloc, &item)
 }

@@ -19,6 +19,7 @@ use Rattle.c2_spec.proofs.BmffPassing.{box_passes}
 use Rattle.c2_spec.proofs.BmffNoFault.{roots_or_fault}
 use Rattle.c2_spec.proofs.BmffOneStore.{no_both, stores_once, store_or_none}
 use Rattle.c2_lemmas.proofs.Options.{none_some, same_some}
+use Rattle.c2_lemmas.proofs.Parts.{first_same, others_same}
 
 -- ---- one root fault
 
@@ -89,14 +90,6 @@ places_on : (b : Box) (bs cs : List Box) (h k : Box) → Places bs cs h k → Pl
 places_on b bs cs h k (same_place e f) = same_place (ap (λ (xs : List Box). b ∷ xs) e) f
 places_on b bs cs h k (later zs e) = later zs (ap (λ (xs : List Box). b ∷ xs) e)
 places_on b bs cs h k (earlier zs e) = earlier zs (ap (λ (xs : List Box). b ∷ xs) e)
-
--- equal lists have one first box
-pub first_same : (b c : Box) (bs cs : List Box) → b ∷ bs ≡ c ∷ cs → b ≡ c
-first_same b c bs cs e = cc (e)
-
--- equal lists have the same boxes behind the first
-pub others_same : (b c : Box) (bs cs : List Box) → b ∷ bs ≡ c ∷ cs → bs ≡ cs
-others_same b c bs cs e = cc (e)
 
 -- two places of one list
 places : (bs cs : List Box) (h k : Box) (xs ys : List Box) → bs ++ h ∷ xs ≡ cs ++ k ∷ ys → Places bs cs h k

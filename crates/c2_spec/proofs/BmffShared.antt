@@ -3,7 +3,7 @@ use Rattle.c2_spec.proofs.BmffSizes.{bytes_size}
 use Rattle.c2_spec.specs.Bmff.Boxes.{Box, IsBox, box_bytes, box_len, boxes_len}
 use Rattle.c2_spec.specs.Bmff.Paths.{OnPath, PathStep, PlacedBox, below, last, matched}
 use Rattle.c2_spec.specs.Bmff.Writing.{c2pa_box, c2pa_frame_len}
-use Rattle.std.proofs.Common.{List, [], ap, arith, length, length-append, subst, ℕ, ◌++◌, ◌+◌, ◌-◌, ◌∙◌, ◌∷◌, ◌≡◌}
+use Rattle.std.proofs.Common.{List, [], ap, arith, length, length-append, subst, ℕ, ◌++◌, ◌+◌, ◌∙◌, ◌∷◌, ◌≡◌}
 use Rattle.std.proofs.lemmas.Grind.{flat_map-append}
 use Rattle.std.specs.List.{flat_map}
 use Rattle.std.specs.Prelude.{Contains}

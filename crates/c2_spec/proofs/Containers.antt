@@ -1,8 +1,12 @@
--- A file is of one container, which its first bytes tell.
-use Rattle.std.proofs.Common.{◌≡◌, ℕ, Bool, true, not, ◌&&◌, List, [], ◌∷◌, take, refl, sym, ap, ◌∙◌, bytes_eq}
+-- A file is of one container, which its first bytes tell, and comes to what it does as one of it.
+use Rattle.std.proofs.Common.{◌≡◌, ℕ, Bool, true, not, ◌&&◌, List, [], ◌∷◌, take, refl, sym, ap, ◌∙◌, subst, bytes_eq}
 use Rattle.std.proofs.lemmas.Bool.{and_from, and_parts}
+use Rattle.std.specs.Bool.{MatchBool}
 use Rattle.c2_spec.specs.Bmff.Boxes.{begins_bmff}
-use Rattle.c2_spec.specs.Container.{Container, IsContainer, begins_jpeg, bmff, is_bmff, jpeg}
+use Rattle.c2_spec.specs.Bmff.Store.{IsBmffLocated}
+use Rattle.c2_spec.specs.Container.{Container, IsContainer, IsLocated, begins_jpeg, bmff, is_bmff, jpeg}
+use Rattle.c2_spec.specs.Jpeg.Store as jpeg_store
+use Rattle.c2_spec.specs.Located.{Located}
 use Rattle.c2_spec.proofs.BmffOneList.{roots_once}
 
 -- no file that begins as a JPEG is read by root boxes
@@ -23,3 +27,13 @@ same_media f g e h k =
     let no : not (begins_jpeg g) ≡ true = (and_parts (not (begins_jpeg g)) (begins_bmff g) h).0 in
     and_from (not (begins_jpeg f)) (begins_bmff f)
     (ap (λ (x : List ℕ). not (bytes_eq x (0xFF ∷ 0xD8 ∷ []))) e ∙ no) k
+
+-- what a BMFF file comes to by its boxes is what the file comes to
+pub as_bmff : (file : List ℕ) (what : Located) → is_bmff file ≡ true → IsBmffLocated file what → IsLocated file what
+as_bmff file what e h =
+    subst (λ (b : Bool). MatchBool b (IsBmffLocated file what) (jpeg_store.IsLocated file what)) (sym e) h
+
+-- what a BMFF file comes to, it comes to by its boxes
+pub of_bmff : (file : List ℕ) (what : Located) → is_bmff file ≡ true → IsLocated file what → IsBmffLocated file what
+of_bmff file what e h =
+    subst (λ (b : Bool). MatchBool b (IsBmffLocated file what) (jpeg_store.IsLocated file what)) e h

@@ -11,6 +11,7 @@ pub mod BmffTests
 pub mod BoxParts
 pub mod BoxesOfManifests
 pub mod CborEach
+pub mod CborHeadLengths
 mod CborRows
 pub mod CborShared
 mod ClaimRows
@@ -18,7 +19,9 @@ pub mod ClaimVersions
 pub mod Containers
 mod CoverRows
 pub mod Digests
+pub mod DistinctLabels
 pub mod GivenLabels
+pub mod JpegLocated
 mod JpegRows
 pub mod JumbfBoxes
 pub mod JumbfChildren
@@ -28,6 +31,7 @@ pub mod JumbfNoFault
 pub mod JumbfOneFault
 pub mod JumbfOneTree
 pub mod JumbfParts
+pub mod JumbfRefusals
 pub mod JumbfRows
 pub mod Kept
 pub mod LabelsOfManifests

@@ -6,8 +6,10 @@ use Rattle.c2_spec.specs.C2pa.Manifest.{IsStoreOf}
 use Rattle.c2_spec.specs.Jumbf.Boxes.{tree_count}
 use Rattle.c2_spec.specs.Jumbf.Tree.{IsNewLabel, Tree, description_payload}
 use Rattle.c2_spec.specs.Jumbf.Writing.{fresh_description}
+use Rattle.c2_spec.specs.Located.{Opening, absent, here, refused}
+use Rattle.c2_spec.specs.declared.reason.Reason.{Reason}
 use Rattle.c2_spec.specs.declared.store.ManifestBoxes.{ManifestBoxes}
-use Rattle.std.proofs.Common.{Bool, List, None, Option, Some, [], ap, arith, cond, false, length, length-append, map, option_map, slice_get, suc, true, ℕ, ◌++◌, ◌+◌, ◌<◌, ◌∙◌, ◌∷◌, ◌≡◌, ◌≢◌, ◌≤◌}
+use Rattle.std.proofs.Common.{Bool, Err, List, None, Ok, Option, Result, Some, [], ap, arith, cond, false, length, length-append, map, option_map, slice_get, subst, suc, true, ℕ, ◌++◌, ◌+◌, ◌<◌, ◌∙◌, ◌∷◌, ◌≡◌, ◌≢◌, ◌≤◌}
 use Rattle.std.specs.List.{AllByRecursion, filter}
 use Rattle.std.specs.Option.{IfSome}
 
@@ -52,3 +54,35 @@ pub some_header : (f : SizeForm) → 8 ≤ header_len f
 some_header short = omega arith
 some_header long = omega arith
 some_header to_end = omega arith
+
+-- ---- what a file is opened as, passed on
+
+-- what something is opened as, passed on as it is, or what refuses it under another name
+abbrev pub passed_opening : {T E : Type 0} → (Reason → ℕ → E) → Opening T → Result (Opening T) E
+passed_opening name (refused reason number) = Err (name reason number)
+passed_opening name absent = Ok absent
+passed_opening name (here start len t) = Ok (here start len t)
+
+-- what is passed on is what it was opened as
+pub opening_value : {T E : Type 0} (name : Reason → ℕ → E) (Is : Opening T → Type 0) (what : Opening T)
+    → ((w : Opening T) × Is w × (Ok what ≡ passed_opening name w)) → Is what
+opening_value {T} {E} name Is what h = by h.0 h.1 h.2
+  where
+    same : (w : Opening T) → ◌≡◌ {A = Result (Opening T) E} (Ok what) (Ok w) → w ≡ what
+    same w e = cc (e)
+
+    by : (w : Opening T) → Is w → Ok what ≡ passed_opening name w → Is what
+    by (refused reason number) o e = absurd (cc (e))
+    by absent o e = subst Is (same absent e) o
+    by (here start len t) o e = subst Is (same (here start len t) e) o
+
+-- nothing is refused where nothing is opened as refused
+pub opening_never : {T E : Type 0} (name : Reason → ℕ → E) (Is : Opening T → Type 0)
+    → ((reason : Reason) (number : ℕ) → Is (refused reason number) → ⊥) → (e : E)
+    → ((w : Opening T) × Is w × (Err e ≡ passed_opening name w)) → ⊥
+opening_never {T} {E} name Is never e h = by h.0 h.1 h.2
+  where
+    by : (w : Opening T) → Is w → Err e ≡ passed_opening name w → ⊥
+    by (refused reason number) o q = never reason number o
+    by absent o q = cc (q)
+    by (here start len t) o q = cc (q)

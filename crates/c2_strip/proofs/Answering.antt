@@ -1,6 +1,6 @@
 -- What is answered of a file without its store, and what the sink took.
 use Rattle.c2_strip.proofs.TheLaws.{each_file_is_stripped_once}
-use Rattle.std.proofs.Common.{◌≡◌, ℕ, ◌<◌, Bool, List, length, take, Option, Ok, Err, IfOk, IsSome, None, Some, refl, sym, ap, ◌∙◌, subst, append-nil}
+use Rattle.std.proofs.Common.{◌≡◌, ◌≢◌, ℕ, ◌<◌, Bool, List, length, take, Option, Ok, Err, IfErr, IfOk, IsSome, None, Some, refl, sym, ap, ◌∙◌, subst, append-nil}
 use Rattle.std.specs.declared.result.Result.{Result}
 use Rattle.std.specs.Prelude.{⊤}
 use Rattle.c2_base.specs.Sink.{StaysSink, WritesSink, then_written, unsaid}
@@ -90,15 +90,13 @@ idle_room untouched spare count idle = tt
 
 -- ---- a refused container
 
--- nothing was written
-pub refused_idle : (e : MediaError) (r : Result Stripped StripError) → IsRefusedBy e r → IsIdle (ending_of r)
-refused_idle e (Ok (Done range)) k = absurd k
-refused_idle e (Ok NoStore) k = absurd k
-refused_idle e (Ok (Refused f)) k = tt
-refused_idle e (Ok (Middle at)) k = absurd k
-refused_idle e (Err ReadFault) k = tt
-refused_idle e (Err WriteFault) k = absurd k
-refused_idle e (Err NoMemory) k = tt
+-- no sink failed
+pub refused_unwritten : (e : MediaError) (r : Result Stripped StripError) → IsRefusedBy e r
+    → IfErr r (λ x. x ≢ WriteFault)
+refused_unwritten e (Ok a) k = tt
+refused_unwritten e (Err ReadFault) k = λ is. cc (is)
+refused_unwritten e (Err WriteFault) k = absurd k
+refused_unwritten e (Err NoMemory) k = λ is. cc (is)
 
 -- an error that refuses the file is one of the container's, and leaves the count of faults
 refusal_of : (len before now : ℕ) (e : MediaError) → IsSome (refusal e) → IsLocateCause len before now e
@@ -143,19 +141,21 @@ refused_reads len known faults old new e (Err ReadFault) stays h k =
 refused_reads len known faults old new e (Err WriteFault) stays h k = absurd k
 refused_reads len known faults old new e (Err NoMemory) stays h k = record { stays = stays; quiet = tt; cause = tt }
 
--- the sink wasn't written to
-pub refused_writes :
-    {K : Type 0} (written : K → Option (List ℕ)) (faults : K → ℕ) (sink : K) (e : MediaError)
-    (r : Result Stripped StripError)
-    → StaysSink written unsaid faults sink sink → IsRefusedBy e r
-    → WritesSink written unsaid faults IsStripWriteCause sink sink r
-refused_writes written faults sink e (Ok (Done range)) stays k = absurd k
-refused_writes written faults sink e (Ok NoStore) stays k = absurd k
-refused_writes written faults sink e (Ok (Refused f)) stays k = record { stays = stays; quiet = refl; cause = tt }
-refused_writes written faults sink e (Ok (Middle at)) stays k = absurd k
-refused_writes written faults sink e (Err ReadFault) stays k = record { stays = stays; quiet = tt; cause = refl }
-refused_writes written faults sink e (Err WriteFault) stays k = absurd k
-refused_writes written faults sink e (Err NoMemory) stays k = record { stays = stays; quiet = tt; cause = refl }
+-- ---- an error before anything is written
+
+-- nothing was written
+pub unwritten_idle : (e : StripError) → e ≢ WriteFault → IsIdle (ending_of (Err e))
+unwritten_idle ReadFault other = tt
+unwritten_idle WriteFault other = absurd (other refl)
+unwritten_idle NoMemory other = tt
+
+-- what is left of the sink
+pub unwritten_writes : {K : Type 0} (written : K → Option (List ℕ)) (faults : K → ℕ) (sink : K) (e : StripError)
+    → StaysSink written unsaid faults sink sink → e ≢ WriteFault
+    → WritesSink {T = Stripped} written unsaid faults IsStripWriteCause sink sink (Err e)
+unwritten_writes written faults sink ReadFault stays other = record { stays = stays; quiet = tt; cause = refl }
+unwritten_writes written faults sink WriteFault stays other = absurd (other refl)
+unwritten_writes written faults sink NoMemory stays other = record { stays = stays; quiet = tt; cause = refl }
 
 -- ---- nothing is left out
 

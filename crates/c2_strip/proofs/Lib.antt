@@ -1,5 +1,4 @@
 mod Answering
-mod Containers
 mod Endings
 mod Strips
 mod Taking

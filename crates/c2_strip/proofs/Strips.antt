@@ -2,7 +2,6 @@
 use Rattle.c2_container.proofs.TheLaws.{each_media_file_is_located_once}
 use Rattle.std.proofs.Common.{◌≡◌, ℕ, ◌<◌, ◌^◌, Bool, true, false, List, All, Option, Some, None, Ok, Err, IfSome, IsSome, refl, sym, ap, ap₂, ◌∙◌, subst}
 use Rattle.std.specs.Option.{option_map}
-use Rattle.c2_base.specs.declared.media.Found.{Found}
 use Rattle.c2_base.specs.declared.media.MediaError.{MediaError}
 use Rattle.c2_base.specs.declared.media.MediaError.TheVariants as media
 use Rattle.c2_base.specs.declared.values.Range.{Range}
@@ -10,12 +9,13 @@ use Rattle.c2_spec.specs.Bmff.Store.{HasBmffStore, IsBmffLocated}
 use Rattle.c2_spec.specs.Bmff.Writing.{is_file_end}
 use Rattle.c2_spec.specs.Container.{IsLocated, begins_jpeg, is_bmff}
 use Rattle.c2_spec.specs.Jpeg.Store as jpeg
-use Rattle.c2_spec.specs.Located.{Located, refused, refused_by, absent, here, refusal, as_located}
+use Rattle.c2_spec.specs.Located.{Located, refused, refused_by, absent, here, refusal}
 use Rattle.c2_spec.specs.Reason.{media_refusal}
 use Rattle.c2_spec.specs.declared.reason.Reason.{Reason}
 use Rattle.c2_spec.specs.declared.reason.Reason.TheVariants as why
 use Rattle.c2_spec.specs.declared.reason.Refusal.{Refusal}
-use Rattle.c2_spec.proofs.Containers.{never_both}
+use Rattle.c2_spec.proofs.Containers.{as_bmff, never_both, of_bmff}
+use Rattle.c2_spec.proofs.JpegLocated.{of_jpeg}
 use Rattle.c2_bmff_boxes.specs.Roots.{AreRootsOf}
 use Rattle.c2_bmff_rows.specs.Rows.{rows_of}
 use Rattle.c2_bmff_rows.specs.declared.row.RootBox.{RootBox}
@@ -26,7 +26,6 @@ use Rattle.c2_strip.specs.Endings.{is_last}
 use Rattle.c2_strip.specs.Stripping.{IsMiddle, StripsTo}
 use Rattle.c2_strip.specs.declared.error.Stripped.{Stripped}
 use Rattle.c2_strip.specs.declared.error.Stripped.TheVariants.{Done, NoStore, Refused, Middle}
-use Rattle.c2_strip.proofs.Containers.{as_bmff, of_bmff, of_jpeg}
 use Rattle.c2_strip.proofs.Endings.{last_is}
 use Rattle.c2_lemmas.proofs.Options.{same_some}
 
@@ -241,15 +240,6 @@ each_stripped each file bytes = let l = each file bytes in by l.0 l.1
     by (here start len store) h = stored_strips file start len store h
 
 -- ---- what is as_located of a file
-
--- a store that was found in a file
-pub said_stored : (file : List ℕ) (c : Contained) (f : Found) → IsSaid file (Ok c) → c.found ≡ Some f
-    → IsLocated file (here f.start f.length f.store)
-said_stored file c f h is = subst (λ (o : Option Found). IfSome (as_located (Ok o)) (IsLocated file)) is h.located
-
--- a file in which no store was found has none
-pub said_absent : (file : List ℕ) (c : Contained) → IsSaid file (Ok c) → c.found ≡ None → IsLocated file absent
-said_absent file c h is = subst (λ (o : Option Found). IfSome (as_located (Ok o)) (IsLocated file)) is h.located
 
 -- the container of a file that was searched is the file's
 pub said_container : (file : List ℕ) (c : Contained) (x : Container) → IsSaid file (Ok c) → c.container ≡ x

@@ -1,5 +1,5 @@
 // A media file without its store, written to a sink.
-ghost use Rattle.std.specs.Prelude.{◌<◌, length, IfOk};
+ghost use Rattle.std.specs.Prelude.{◌<◌, ◌≢◌, length, IfErr, IfOk};
 ghost use Rattle.std.specs.Option.{ForSome};
 ghost use Rattle.c2_base.specs.Sink.{WritesSink, unsaid};
 ghost use Rattle.c2_base.specs.Source.{ReadsSource};
@@ -23,6 +23,20 @@ fn refused(error: MediaError) -> Result<Stripped, StripError>
         MediaError::ReadFault => Err(StripError::ReadFault),
         MediaError::NoMemory => Err(StripError::NoMemory),
         _ => Ok(Stripped::Refused(error)),
+    }
+}
+
+// What a file comes to without its store, by its container; nothing is written.
+fn comes_to<S: Source>(alloc: Global, source: &mut S) -> Result<Stripped, StripError>
+    ensures answer { ForSome (S.known source.old) (λ file. IfOk result (IsStripped file)) }
+    ensures within { IfOk result (IsAnswerOf (S.len source.old)) }
+    ensures unwritten { IfErr result (λ e. e ≢ StripError.WriteFault) }
+    ensures reads { ReadsSource S.len S.known S.faults IsStripReadCause
+        source.old source.new result }
+{
+    match locate(alloc, source) {
+        Ok(contained) => Ok(answer_of(&contained)),
+        Err(error) => refused(error),
     }
 }
 
@@ -58,11 +72,10 @@ pub fn strip<S: Source, K: Sink>(
 {
     steps_follow::<K>();
     // Matched and not handed up by `?`, here and below: each way out has clauses of its own.
-    let contained = match locate(alloc, source) {
-        Ok(contained) => contained,
-        Err(error) => return refused(error),
+    let answer = match comes_to(alloc, source) {
+        Ok(answer) => answer,
+        Err(error) => return Err(error),
     };
-    let answer = answer_of(&contained);
     let Stripped::Done(range) = answer else {
         return Ok(answer);
     };

@@ -1,8 +1,9 @@
 -- Pieces that are written one behind the other are the text of the whole.
-use Rattle.std.proofs.Common.{◌≡◌, refl, sym, ◌∙◌, ap, ℕ, zero, suc, ◌+◌, Bool, true, false, List, [], ◌∷◌, ◌++◌, map, drop, codes, Option, Some, None, slice_get, add-one, append_assoc, append-nil}
+use Rattle.std.proofs.Common.{◌≡◌, refl, sym, ◌∙◌, ap, ℕ, zero, suc, ◌+◌, Bool, true, false, List, [], ◌∷◌, ◌++◌, map, drop, codes, decimal, Option, Some, None, slice_get, add-one, append_assoc, append-nil}
 use Rattle.std.proofs.lemmas.List.{map-append}
 use Rattle.std.specs.List.{filter_map}
 use Rattle.std.specs.Option.{option_map, option_and_then}
+use Rattle.hex.specs.Hex.{encode_lower}
 use Rattle.serde_json.proofs.OnLiterals.{serde_json_on_literals}
 use Rattle.serde_json.specs.Data.{Data, boolean, string, array, object, no_members, member}
 use Rattle.serde_json.specs.View.{items_of}
@@ -15,7 +16,7 @@ use Rattle.c2_spec.specs.declared.claim.Claim.{Claim}
 use Rattle.c2_spec.specs.declared.store.ManifestBoxes.{ManifestBoxes}
 use Rattle.c2_rules.specs.Claims.{active_of}
 use Rattle.c2_texts.specs.Items.{items_inside}
-use Rattle.c2_texts.specs.Show.{text_or_null, entry_data, claim_data, claim_or_null, box_data, manifest_data, manifests_data, active_data, show_line}
+use Rattle.c2_texts.specs.Show.{text_or_null, entry_data, claim_data, claim_or_null, sized_data, box_data, manifest_data, manifests_data, active_data, show_line}
 
 -- ---- arrays
 
@@ -56,6 +57,39 @@ assertions_written xs ys o0 o1 oa ob o3 la lb e a b f =
 
 -- ---- objects
 
+-- a number behind a text, and the closing brace, behind what is there, a comma or nothing, and a member
+two : (p0 p1 p2 t1 t2 o0 o1 o2 o3 : List ℕ) → o1 ≡ o0 ++ p0 → o2 ≡ o1 ++ (p1 ++ t1)
+    → o3 ≡ o2 ++ (p2 ++ (t2 ++ 125 ∷ [])) → o3 ≡ o0 ++ (p0 ++ (p1 ++ (t1 ++ (p2 ++ (t2 ++ 125 ∷ [])))))
+two p0 p1 p2 t1 t2 o0 o1 o2 o3 a b c = simp (c, b, a, append_assoc) refl
+
+-- a label, a size and the closing brace, written one behind the other, are the text of a labelled box
+pub sized_written : (size : ℕ) (label : List ℕ) (later : Bool) (o0 o1 o2 o3 : List ℕ) → o1 ≡ o0 ++ comma_if later
+    → o2 ≡ o1 ++ (codes "{\"label\":" ++ compact_text (string label))
+    → o3 ≡ o2 ++ (codes ",\"size\":" ++ (decimal size ++ codes "}"))
+    → o3 ≡ o0 ++ (comma_if later ++ compact_text (sized_data size label))
+unfolding serde_json_on_literals
+sized_written size label later o0 o1 o2 o3 a b c =
+    two (comma_if later) (codes "{\"label\":") (codes ",\"size\":") (compact_text (string label)) (decimal size)
+    o0 o1 o2 o3 a b c
+
+-- three members and the closing brace, behind what is there and a comma or nothing
+three : (p0 p1 p2 p3 t1 t2 t3 o0 o1 o2 o3 o4 o5 : List ℕ) → o1 ≡ o0 ++ p0 → o2 ≡ o1 ++ (p1 ++ t1)
+    → o3 ≡ o2 ++ (p2 ++ t2) → o4 ≡ o3 ++ (p3 ++ t3) → o5 ≡ o4 ++ 125 ∷ []
+    → o5 ≡ o0 ++ (p0 ++ (p1 ++ (t1 ++ (p2 ++ (t2 ++ (p3 ++ (t3 ++ 125 ∷ [])))))))
+three p0 p1 p2 p3 t1 t2 t3 o0 o1 o2 o3 o4 o5 a b c d e = simp (e, d, c, b, a, append_assoc) refl
+
+-- an entry's three members and the closing brace, written one behind the other, are the text of the entry
+pub entry_written : (r : Ref) (later : Bool) (o0 o1 o2 o3 o4 o5 : List ℕ) → o1 ≡ o0 ++ comma_if later
+    → o2 ≡ o1 ++ (codes "{\"alg\":" ++ compact_text (text_or_null r.alg))
+    → o3 ≡ o2 ++ (codes ",\"hash\":" ++ compact_text (string (encode_lower r.hash)))
+    → o4 ≡ o3 ++ (codes ",\"url\":" ++ compact_text (string r.url))
+    → o5 ≡ o4 ++ 125 ∷ [] → o5 ≡ o0 ++ (comma_if later ++ compact_text (entry_data r))
+unfolding serde_json_on_literals
+entry_written r later o0 o1 o2 o3 o4 o5 a b c d e =
+    three (comma_if later) (codes "{\"alg\":") (codes ",\"hash\":") (codes ",\"url\":")
+    (compact_text (text_or_null r.alg)) (compact_text (string (encode_lower r.hash))) (compact_text (string r.url))
+    o0 o1 o2 o3 o4 o5 a b c d e
+
 -- four members and the closing brace
 four : (p1 p2 p3 p4 t1 t2 t3 t4 o0 o1 o2 o3 o4 o5 : List ℕ) → o1 ≡ o0 ++ (p1 ++ t1) → o2 ≡ o1 ++ (p2 ++ t2)
     → o3 ≡ o2 ++ (p3 ++ t3) → o4 ≡ o3 ++ (p4 ++ t4) → o5 ≡ o4 ++ 125 ∷ []
@@ -93,26 +127,23 @@ of_parts t boxes label update claim o0 o5 (Some m) a b c e =
     ap Some (e ∙ ap (λ (x : Data). o0 ++ compact_text x) data_is)
 
 -- a manifest's four members and the closing brace, one behind the other, are the text of the manifest
-pub manifest_written : (t : Tree) (boxes : List ℕ) (label : List ℕ) (update : Bool) (claim : Option Claim) (o0 o1 named o2 o3 o4 o5 : List ℕ) (m : Option ManifestBoxes)
+pub manifest_written : (t : Tree) (boxes : List ℕ) (label : List ℕ) (update : Bool) (claim : Option Claim) (o0 o1 o2 o3 o4 o5 : List ℕ) (m : Option ManifestBoxes)
     → Some boxes ≡ option_map (λ (m : ManifestBoxes). m.assertions) m
     → Some label ≡ option_and_then (λ (m : ManifestBoxes). any_label (box_at t m.whole).box) m
     → Some update ≡ option_map (λ (m : ManifestBoxes). m.is_update) m
     → o1 ≡ o0 ++ (codes "{\"boxes\":" ++ compact_text (array (items_of (filter_map box_data (map (superbox_at t) boxes)))))
-    → named ≡ o1 ++ codes ",\"claim\":" → o2 ≡ named ++ compact_text (claim_or_null claim)
+    → o2 ≡ o1 ++ (codes ",\"claim\":" ++ compact_text (claim_or_null claim))
     → o3 ≡ o2 ++ (codes ",\"label\":" ++ compact_text (string label))
     → o4 ≡ o3 ++ (codes ",\"update\":" ++ compact_text (boolean update))
     → o5 ≡ o4 ++ 125 ∷ []
     → Some o5 ≡ option_map (λ (m : ManifestBoxes). o0 ++ compact_text (manifest_data (manifest_at t m) claim)) m
 unfolding serde_json_on_literals
-manifest_written t boxes label update claim o0 o1 named o2 o3 o4 o5 m boxes_are label_is update_is a n b d e f =
-    let second : o2 ≡ o1 ++ (codes ",\"claim\":" ++ compact_text (claim_or_null claim)) =
-    b ∙ ap (λ x. x ++ compact_text (claim_or_null claim)) n
-    ∙ append_assoc o1 (codes ",\"claim\":") (compact_text (claim_or_null claim)) in
+manifest_written t boxes label update claim o0 o1 o2 o3 o4 o5 m boxes_are label_is update_is a b d e f =
     of_parts t boxes label update claim o0 o5 m boxes_are label_is update_is
     (four (codes "{\"boxes\":") (codes ",\"claim\":") (codes ",\"label\":") (codes ",\"update\":")
     (compact_text (array (items_of (filter_map box_data (map (superbox_at t) boxes)))))
     (compact_text (claim_or_null claim)) (compact_text (string label)) (compact_text (boolean update))
-    o0 o1 o2 o3 o4 o5 a second d e f)
+    o0 o1 o2 o3 o4 o5 a b d e f)
 
 -- ---- manifests
 
@@ -159,13 +190,13 @@ manifest_more t s ms cs i c old behind new w later stores are claims comma is so
 
 -- ---- the line
 
--- the active label, the manifests and the end of the line, one behind the other, are the line of `show`
-pub line_written : (ms : List Manifest) (claims : List (Option Claim)) (o0 o1 o2 o3 o4 : List ℕ) → o0 ≡ []
+-- the active label, the manifests and the end of the line, one behind the other, are the line of `show` behind what is there
+pub line_written : (ms : List Manifest) (claims : List (Option Claim)) (o0 o1 o2 o3 o4 : List ℕ)
     → o1 ≡ o0 ++ (codes "{\"active\":" ++ compact_text (active_data (active_of ms)))
-    → o2 ≡ o1 ++ codes ",\"manifests\":[" → o3 ≡ o2 ++ items_inside false (manifests_data ms claims) → o4 ≡ o3 ++ codes "]}\n" → o4 ≡ show_line ms claims
+    → o2 ≡ o1 ++ codes ",\"manifests\":[" → o3 ≡ o2 ++ items_inside false (manifests_data ms claims) → o4 ≡ o3 ++ codes "]}\n" → o4 ≡ o0 ++ show_line ms claims
 unfolding serde_json_on_literals
-line_written ms claims o0 o1 o2 o3 o4 z a b c d =
+line_written ms claims o0 o1 o2 o3 o4 a b c d =
     let ds = manifests_data ms claims in
     let active = compact_text (active_data (active_of ms)) in
     let ends = items_end false ds in
-    simp (d, c, b, a, z, ends, append_assoc) refl
+    simp (d, c, b, a, ends, append_assoc) refl

@@ -1,6 +1,7 @@
 // What `show` says of claims.
 ghost use Rattle.std.specs.Prelude.{◌≡◌, ◌++◌, IfOk, OnOk, codes, false, map};
 ghost use Rattle.std.specs.Option.{option_map};
+ghost use Rattle.hex.specs.Hex.{encode_lower};
 ghost use Rattle.serde_json.specs.Data.{array, string};
 ghost use Rattle.serde_json.specs.View.{items_of, view};
 ghost use Rattle.serde_json.specs.Written.{comma_if, compact_text};
@@ -10,7 +11,7 @@ ghost use Rattle.c2_texts.specs.Show as form;
 use crate::json::{comma, push_text, push_value};
 use c2_base::Text;
 use c2_spec::{Claim, Ref};
-use serde_json::{Value, json};
+use serde_json::Value;
 use std::alloc::{AllocError, Global};
 
 // A text that may be missing.
@@ -23,22 +24,39 @@ fn text_or_null(alloc: Global, text: &Option<Text>) -> Result<Value, AllocError>
     }
 }
 
-// An entry of a claim.
-fn entry_value(alloc: Global, entry: &Ref) -> Result<Value, AllocError>
-    ensures { IfOk result (λ value. view value ≡ form.entry_data entry.now) }
+// Appends this text and a text that may be missing.
+fn push_text_or_null(
+    alloc: Global,
+    out: &mut String,
+    before: &str,
+    text: &Option<Text>,
+) -> Result<(), AllocError>
+    ensures { let text = before.now ++ compact_text (form.text_or_null text.now) in
+        OnOk result (Appends out.old out.new text) }
 {
-    let alg = text_or_null(alloc, &entry.alg)?;
-    let hash = hex::encode(alloc, entry.hash.as_slice())?;
-    json!(in alloc; {"alg": alg, "hash": hash, "url": (entry.url.as_str())})
+    let value = text_or_null(alloc, text)?;
+    push_value(alloc, out, before, &value)
 }
 
-// Appends an entry.
+// Appends the member that is an entry's digest, in hex.
+fn push_hash(alloc: Global, out: &mut String, hash: &[u8]) -> Result<(), AllocError>
+    ensures { let text = codes ",\"hash\":" ++ compact_text (string (encode_lower hash.now)) in
+        OnOk result (Appends out.old out.new text) }
+{
+    let hex = hex::encode(alloc, hash)?;
+    push_text(alloc, out, ",\"hash\":", hex.as_str())
+}
+
+// Appends an entry, behind a comma where one stands before.
 fn push_entry(alloc: Global, out: &mut String, later: bool, entry: &Ref) -> Result<(), AllocError>
     ensures { let text = comma_if later ++ compact_text (form.entry_data entry.now) in
         OnOk result (Appends out.old out.new text) }
 {
-    let value = entry_value(alloc, entry)?;
-    push_value(alloc, out, comma(later), &value)?;
+    out.push_str(comma(later))?;
+    push_text_or_null(alloc, out, "{\"alg\":", &entry.alg)?;
+    push_hash(alloc, out, entry.hash.as_slice())?;
+    push_text(alloc, out, ",\"url\":", entry.url.as_str())?;
+    out.push('}')?;
     Ok(())
 }
 
@@ -97,24 +115,13 @@ fn push_redacted(alloc: Global, out: &mut String, texts: &[Text]) -> Result<(), 
     Ok(())
 }
 
-// Appends a claim's instance, or null where it has none.
-fn push_instance(alloc: Global, out: &mut String, claim: &Claim) -> Result<(), AllocError>
-    ensures { let instance = form.text_or_null claim.now.instance in
-        OnOk result (Appends out.old out.new (codes ",\"instanceID\":" ++ compact_text instance)) }
-{
-    let instance = text_or_null(alloc, &claim.instance)?;
-    push_value(alloc, out, ",\"instanceID\":", &instance)?;
-    Ok(())
-}
-
 // Appends a claim.
 fn push_claim(alloc: Global, out: &mut String, claim: &Claim) -> Result<(), AllocError>
     ensures { OnOk result (Appends out.old out.new (compact_text (form.claim_data claim.now))) }
 {
-    let alg = text_or_null(alloc, &claim.alg)?;
-    push_value(alloc, out, "{\"alg\":", &alg)?;
+    push_text_or_null(alloc, out, "{\"alg\":", &claim.alg)?;
     push_assertions(alloc, out, claim)?;
-    push_instance(alloc, out, claim)?;
+    push_text_or_null(alloc, out, ",\"instanceID\":", &claim.instance)?;
     push_redacted(alloc, out, claim.redacted.as_slice())?;
     out.push('}')?;
     Ok(())

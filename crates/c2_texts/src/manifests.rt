@@ -2,34 +2,38 @@
 ghost use Rattle.std.specs.Prelude.{◌≡◌, ◌<◌, ◌++◌, All, IfOk, List, OnOk, Some, codes, false, length, map, slice_get, string_bytes};
 ghost use Rattle.std.specs.List.{cons_option, filter_map};
 ghost use Rattle.std.specs.Option.{option_map};
-ghost use Rattle.serde_json.specs.Data.{Data, array};
-ghost use Rattle.serde_json.specs.View.{items_of, view};
-ghost use Rattle.serde_json.specs.Written.{compact_text};
+ghost use Rattle.serde_json.specs.Data.{Data, array, boolean};
+ghost use Rattle.serde_json.specs.View.{items_of};
+ghost use Rattle.serde_json.specs.Written.{comma_if, compact_text};
 ghost use Rattle.c2_spec.specs.Jumbf.Boxes.{tree_count};
 ghost use Rattle.c2_spec.specs.C2pa.Manifest.{IsStoreOf, superbox_at, manifest_at};
 ghost use Rattle.c2_texts.specs.Items.{Appends, items_inside};
 ghost use Rattle.c2_texts.specs.Show as form;
 
 use crate::claims::push_claim_or_null;
-use crate::json::{comma, push_value};
+use crate::json::{comma, push_text, push_value};
 use c2_jumbf::{Tree, contents, label_of};
 use c2_spec::Claim;
 use c2_store::{Store, assertions, is_update, label};
-use serde_json::{Value, json};
+use serde_json::Value;
 use std::alloc::{AllocError, Global};
 
-// A box, where it has a label.
-fn box_value(alloc: Global, tree: &Tree<'_>, i: usize) -> Result<Option<Value>, AllocError>
-    requires { i < tree_count tree.now }
-    ensures { let box = form.box_data (superbox_at tree.now i) in
-        IfOk result (λ value. option_map view value ≡ box) }
+// Appends a box with this label and so many bytes of contents, behind a comma where one stands
+// before.
+fn push_sized(
+    alloc: Global,
+    out: &mut String,
+    before: bool,
+    label: &str,
+    size: usize,
+) -> Result<(), AllocError>
+    ensures { let text = comma_if before ++ compact_text (form.sized_data size label.now) in
+        OnOk result (Appends out.old out.new text) }
 {
-    let Some(label) = label_of(tree, i) else {
-        return Ok(None);
-    };
-    let size = contents(tree, i).len();
-    let value = json!(in alloc; {"label": label, "size": size})?;
-    Ok(Some(value))
+    out.push_str(comma(before))?;
+    push_text(alloc, out, "{\"label\":", label)?;
+    write!(out, ",\"size\":{size}}}")?;
+    Ok(())
 }
 
 // Appends a box, where it has a label, and says whether the array has a box now.
@@ -45,10 +49,10 @@ fn push_box(
         IfOk result (λ later. (rest : List Data) → string_bytes out.new ++ items_inside later rest
         ≡ string_bytes out.old ++ items_inside before (cons_option box rest)) }
 {
-    let Some(value) = box_value(alloc, tree, i)? else {
+    let Some(label) = label_of(tree, i) else {
         return Ok(before);
     };
-    push_value(alloc, out, comma(before), &value)?;
+    push_sized(alloc, out, before, label, contents(tree, i).len())?;
     Ok(true)
 }
 
@@ -88,6 +92,29 @@ fn push_labelled(
     Ok(())
 }
 
+// Appends the member that is a manifest's claim.
+fn push_claim_member(
+    alloc: Global,
+    out: &mut String,
+    claim: Option<&Claim>,
+) -> Result<(), AllocError>
+    ensures { let value = form.claim_or_null (option_map (λ c. c.now) claim.entry) in
+        OnOk result (Appends out.old out.new (codes ",\"claim\":" ++ compact_text value)) }
+{
+    out.push_str(",\"claim\":")?;
+    push_claim_or_null(alloc, out, claim)?;
+    Ok(())
+}
+
+// Appends the member that says whether a manifest is an update.
+fn push_update(alloc: Global, out: &mut String, update: bool) -> Result<(), AllocError>
+    ensures { let text = codes ",\"update\":" ++ compact_text (boolean update) in
+        OnOk result (Appends out.old out.new text) }
+{
+    let flag = Value::from(update);
+    push_value(alloc, out, ",\"update\":", &flag)
+}
+
 /// Appends the manifest with this index, which has this claim.
 pub fn push_manifest(
     alloc: Global,
@@ -105,13 +132,9 @@ pub fn push_manifest(
         (slice_get store.now i)) }
 {
     push_labelled(alloc, out, tree, assertions(store, i))?;
-    out.push_str(",\"claim\":")?;
-    push_claim_or_null(alloc, out, claim)?;
-    let label = Value::try_from_str(alloc, label(tree, store, i))?;
-    push_value(alloc, out, ",\"label\":", &label)?;
-    let update = is_update(store, i);
-    let flag = Value::from(update);
-    push_value(alloc, out, ",\"update\":", &flag)?;
+    push_claim_member(alloc, out, claim)?;
+    push_text(alloc, out, ",\"label\":", label(tree, store, i))?;
+    push_update(alloc, out, is_update(store, i))?;
     out.push('}')?;
     Ok(())
 }

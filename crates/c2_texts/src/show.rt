@@ -1,6 +1,7 @@
 // The line of `show`.
-ghost use Rattle.std.specs.Prelude.{◌≡◌, IfOk, OnOk, false, string_bytes};
+ghost use Rattle.std.specs.Prelude.{◌≡◌, ◌++◌, IfOk, OnOk, codes, false, string_bytes};
 ghost use Rattle.serde_json.specs.View.{view};
+ghost use Rattle.serde_json.specs.Written.{compact_text};
 ghost use Rattle.c2_spec.specs.C2pa.Manifest.{IsStoreOf, manifests_of};
 ghost use Rattle.c2_rules.specs.Claims.{active_of};
 ghost use Rattle.c2_texts.specs.Items.{Appends, items_inside};
@@ -48,6 +49,41 @@ fn active_value(alloc: Global, tree: &Tree<'_>, store: &Store) -> Result<Value, 
     Value::try_from_str(alloc, label(tree, store, last))
 }
 
+// Appends the member that is the label of the active manifest, with the brace before it.
+fn push_active(
+    alloc: Global,
+    out: &mut String,
+    tree: &Tree<'_>,
+    store: &Store,
+) -> Result<(), AllocError>
+    requires { IsStoreOf tree.now store.now }
+    ensures { let active = form.active_data (active_of (manifests_of tree.now)) in
+        OnOk result (Appends out.old out.new (codes "{\"active\":" ++ compact_text active)) }
+{
+    let active = active_value(alloc, tree, store)?;
+    push_value(alloc, out, "{\"active\":", &active)
+}
+
+// Appends the line of `show`.
+fn push_line(
+    alloc: Global,
+    out: &mut String,
+    tree: &Tree<'_>,
+    store: &Store,
+    chain: &Chain<'_>,
+) -> Result<(), AllocError>
+    requires same { IsStoreOf tree.now store.now }
+    requires manifests { chain.now.manifests ≡ manifests_of tree.now }
+    ensures { let line = form.show_line chain.now.manifests chain.now.claims in
+        OnOk result (Appends out.old out.new line) }
+{
+    push_active(alloc, out, tree, store)?;
+    out.push_str(",\"manifests\":[")?;
+    push_manifests(alloc, out, tree, store, chain)?;
+    out.push_str("]}\n")?;
+    Ok(())
+}
+
 /// The line of `show`: the manifests of a store with their claims as JSON, and which is active.
 ///
 /// The JSON is written item by item: beside the line, no more than one entry of a claim or one box stands in memory.
@@ -63,10 +99,6 @@ pub fn show_line(
         IfOk result (λ text. string_bytes text ≡ line) }
 {
     let mut text = String::new(alloc);
-    let active = active_value(alloc, tree, store)?;
-    push_value(alloc, &mut text, "{\"active\":", &active)?;
-    text.push_str(",\"manifests\":[")?;
-    push_manifests(alloc, &mut text, tree, store, chain)?;
-    text.push_str("]}\n")?;
+    push_line(alloc, &mut text, tree, store, chain)?;
     Ok(text)
 }

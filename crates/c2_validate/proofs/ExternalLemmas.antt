@@ -1,10 +1,10 @@
 -- The answer of the check with an external store.
 use Rattle.c2_opening.proofs.TheLaws.{one_opening_store}
-use Rattle.std.proofs.Common.{◌≡◌, ℕ, ◌<◌, ◌^◌, Bool, true, false, List, [], length, nat_lt, All, Result, Ok, Err, IfOk, sym, ap, ◌∙◌, subst}
+use Rattle.std.proofs.Common.{◌≡◌, ℕ, ◌<◌, ◌^◌, Bool, true, false, List, [], length, nat_lt, All, Result, Ok, Err, IfOk, ap, ◌∙◌, subst}
 use Rattle.std.specs.Bool.{MatchBool}
 use Rattle.c2_base.specs.declared.limits.TheConstants.{MAX_STORE_LEN}
 use Rattle.c2_base.specs.declared.values.Question.{Question}
-use Rattle.c2_spec.specs.C2pa.Manifest.{IsStoreOf, manifests_of}
+use Rattle.c2_spec.specs.C2pa.Manifest.{IsStoreOf}
 use Rattle.c2_spec.specs.Jumbf.Tree.{Tree}
 use Rattle.c2_spec.specs.Located.{Located, Opening, here, refused}
 use Rattle.c2_spec.specs.declared.digest.Alg.{Alg}
@@ -14,7 +14,6 @@ use Rattle.c2_spec.specs.declared.reason.Reason.TheVariants.{StoreTooLarge}
 use Rattle.c2_spec.specs.declared.store.ManifestBoxes.{ManifestBoxes}
 use Rattle.c2_rules.specs.CheckList.{check_asks}
 use Rattle.c2_rules.specs.Opened.{IsManifestStore}
-use Rattle.c2_rules.specs.Readings.{AreReadings, Reading}
 use Rattle.c2_rules.specs.Validated.{OpenedAsks}
 use Rattle.c2_rules.specs.declared.answer.Answer.{Answer}
 use Rattle.c2_rules.specs.declared.answer.Answer.TheVariants as answer
@@ -25,10 +24,10 @@ use Rattle.c2_opening.specs.declared.types.Opened.{Opened}
 use Rattle.c2_opening.specs.declared.types.Opened.TheVariants as opened
 use Rattle.c2_opening.specs.declared.types.StoreRead.{StoreRead}
 use Rattle.c2_opening.specs.declared.types.StoreRead.TheVariants as read
+use Rattle.c2_validate.specs.Boxes.{IsStoreAnswered, IsTreeAnswered}
 use Rattle.c2_validate.specs.External.{ExternalAsks, IsExternalAnswer, IsAnsweredExternal, IsListAnswered, IsLocatedAnswer, IsStoreAnswer, IsExternalStore, ListAsks, LocatedAsks}
 use Rattle.c2_validate.specs.declared.external.External.{External}
 use Rattle.c2_validate.specs.declared.external.External.TheVariants.{Of, StoreRefused}
-use Rattle.c2_validate.proofs.FileLemmas.{AnswersOver, tree_answered, tree_asks}
 
 -- ---- a list that was read
 
@@ -88,28 +87,29 @@ refused_asks hash store said reason number qs small h k =
     subst (λ (o : Opening Tree). OpenedAsks (check_asks hash said) o qs)
     (seen store (read.Refused reason number) k.0 small h k.1) k.2
 
--- the answer over the manifests of the list is that over the list
-pub list_answered : (hash : Alg → List ℕ → List ℕ) (said : Question → Verdict) (c : Container) (store file : List ℕ) (t : Tree)
-    (b : List ManifestBoxes) (rs : List Reading) (a : Answer) → nat_lt MAX_STORE_LEN (length store) ≡ false
-    → IsReadFrom store (read.Here t b)
-    → AreReadings (manifests_of t) rs → AnswersOver hash said file c 0 0 rs a
-    → IsListAnswered hash said c store file (Of a)
-list_answered hash said c store file t b rs a small h reads k contained expected l =
-    let there : IsStoreAnswer hash said file (here 0 0 t) expected =
-    subst (λ (w : Opening Tree). IsStoreAnswer hash said file w expected)
-    (seen store (read.Here t b) l.0 small h l.1) l.2 in
-    there.2 ∙ ap Of (sym (tree_answered hash said file c 0 0 t rs a there.0 contained reads k there.1))
+-- what is answered over a box tree is answered over it as that of an external store
+pub store_of : (hash : Alg → List ℕ → List ℕ) (said : Question → Verdict) (file : List ℕ) (c : Container) (start len : ℕ)
+    (t : Tree) (a : Answer) → IsTreeAnswered hash said c start len t file a
+    → IsStoreAnswered hash said c start len t file (Of a)
+store_of hash said file c start len t a h contained expected k = k.2 ∙ ap Of (h contained k.0 k.1)
 
--- what is asked over the list is asked over its manifests
+-- what is answered over the box tree of the list is answered over the list
+pub list_answered : {E : Type 0} (hash : Alg → List ℕ → List ℕ) (said : Question → Verdict) (c : Container)
+    (store file : List ℕ) (t : Tree) (s : List ManifestBoxes) (r : Result External E)
+    → nat_lt MAX_STORE_LEN (length store) ≡ false → IsReadFrom store (read.Here t s)
+    → IfOk r (IsStoreAnswered hash said c 0 0 t file) → IfOk r (IsListAnswered hash said c store file)
+list_answered hash said c store file t s (Ok e) small h k = λ contained expected l.
+    k contained expected
+    (subst (λ (w : Opening Tree). IsStoreAnswer hash said file w expected) (seen store (read.Here t s) l.0 small h l.1) l.2)
+list_answered hash said c store file t s (Err e) small h k = tt
+
+-- what is asked over the list is asked over its boxes
 pub list_asks : (hash : Alg → List ℕ → List ℕ) (store : List ℕ) (said : Question → Verdict)
-    (t : Tree) (b : List ManifestBoxes) (rs : List Reading) (qs : List Question)
-    → nat_lt MAX_STORE_LEN (length store) ≡ false → IsReadFrom store (read.Here t b) → AreReadings (manifests_of t) rs
-    → ListAsks hash store said qs → qs ≡ check_asks hash said rs
-list_asks hash store said t b rs qs small h reads k =
-    let there =
-    subst (λ (w : Opening Tree). OpenedAsks (check_asks hash said) w qs)
-    (seen store (read.Here t b) k.0 small h k.1) k.2 in
-    tree_asks hash said t rs there.0 qs reads there.1 there.2
+    (t : Tree) (s : List ManifestBoxes) (qs : List Question)
+    → nat_lt MAX_STORE_LEN (length store) ≡ false → IsReadFrom store (read.Here t s)
+    → ListAsks hash store said qs → OpenedAsks (check_asks hash said) (here 0 0 t) qs
+list_asks hash store said t s qs small h k =
+    subst (λ (w : Opening Tree). OpenedAsks (check_asks hash said) w qs) (seen store (read.Here t s) k.0 small h k.1) k.2
 
 -- ---- a file
 

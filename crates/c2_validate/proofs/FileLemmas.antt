@@ -1,32 +1,31 @@
 -- The answer of a file, by what it is opened as, and by the store that was opened from it.
-use Rattle.c2_opening.proofs.TheLaws.{one_media_read, one_opening_file}
+use Rattle.c2_opening.proofs.TheLaws.{one_media_read, one_opening_file, one_opening_store}
 use Rattle.c2_read_manifests.proofs.TheLaws.{one_reading_manifests}
-use Rattle.std.proofs.Common.{◌≡◌, ℕ, ◌<◌, ◌^◌, List, [], All, length, Option, Some, refl, sym, ap, ◌∙◌, subst}
+use Rattle.std.proofs.Common.{◌≡◌, ℕ, ◌<◌, ◌^◌, List, [], All, length, Option, Some, Ok, Err, IfOk, refl, sym, ap, ◌∙◌, subst}
 use Rattle.c2_base.specs.declared.values.Question.{Question}
 use Rattle.c2_spec.specs.C2pa.Manifest.{manifests_of}
 use Rattle.c2_spec.specs.Jumbf.Tree.{Tree}
-use Rattle.c2_spec.specs.Located.{Opening, absent, here, refused}
+use Rattle.c2_spec.specs.Located.{Located, Opening, absent, here, refused}
 use Rattle.c2_spec.specs.declared.digest.Alg.{Alg}
 use Rattle.c2_spec.specs.declared.panel.Verdict.{Verdict}
 use Rattle.c2_spec.specs.declared.reason.Reason.{Reason}
 use Rattle.std.specs.declared.result.Result.{Result}
-use Rattle.c2_spec.specs.declared.assertion.FieldError.{FieldError}
-use Rattle.c2_rules.specs.Binding.{Binding, Media}
 use Rattle.c2_rules.specs.CheckList.{HasBindingOf, StoreReading, active_in, check_asks, store_answer}
-use Rattle.c2_rules.specs.Opened.{IsOpened}
+use Rattle.c2_rules.specs.Opened.{IsManifestStore, IsOpened, Opens}
 use Rattle.c2_rules.specs.Readings.{AreReadings, Reading}
 use Rattle.c2_rules.specs.Validated.{CheckAsks, IsAnswer, IsOpenedAnswer, IsTreeAnswer, OpenedAsks}
 use Rattle.c2_rules.specs.declared.answer.Answer.{Answer}
+use Rattle.c2_rules.specs.declared.answer.Answer.TheVariants as answer
 use Rattle.c2_calls_spec.specs.Asks.{AsksKnown}
 use Rattle.c2_container.specs.Contained.{IsContainerOf}
 use Rattle.c2_container.specs.declared.types.Container.{Container}
-use Rattle.c2_opening.specs.Media.{IsMediaOf}
 use Rattle.c2_opening.specs.Opened.{IsFound, IsStoreRead, tree_of}
 use Rattle.c2_opening.specs.declared.types.Media.{Media as MediaFile}
 use Rattle.c2_opening.specs.declared.types.Opened.TheVariants as opened
 use Rattle.c2_opening.specs.declared.types.StoreRead.{StoreRead}
 use Rattle.c2_opening.specs.declared.types.StoreRead.TheVariants as read
 use Rattle.c2_spec.specs.declared.store.ManifestBoxes.{ManifestBoxes}
+use Rattle.c2_validate.specs.Boxes.{AnswersOver, IsMediaAnswer, IsTreeAnswered, MediaAsks}
 use Rattle.c2_validate.specs.Checked.{IsCheckedOver, IsOpenedFrom, StoreAsks, answer_as, readings_of}
 use Rattle.c2_validate.specs.Validation.{FileAsks, IsAnswered}
 use Rattle.c2_validate.specs.declared.checking.Checked.{Checked}
@@ -57,13 +56,6 @@ opened_asks hash said file what qs is asks =
     asks.2
 
 -- ---- by the store that was opened
-
--- what is answered over manifests that were read, in a file of this container and this embedded range
-abbrev pub AnswersOver : (Alg → List ℕ → List ℕ) → (Question → Verdict) → List ℕ → Container → ℕ → ℕ → List Reading
-    → Answer → Type 0
-AnswersOver hash said file c start len rs a =
-    (m : Media) → IsMediaOf file c m → (b : Option (Result Binding FieldError)) → HasBindingOf m (active_in rs) b → a
-    ≡ store_answer hash said (length file) start len (record { readings = rs; binding = b })
 
 -- what is answered over manifests that were read is what is answered over the tree that they were read of
 pub tree_answered : (hash : Alg → List ℕ → List ℕ) (said : Question → Verdict)
@@ -103,6 +95,14 @@ answer_by answers hash said file c start len t rs a b is contained opened_as rea
     record
     { is = subst (IsAnswer hash said file) same is; only = λ expected k. answers hash said file expected b k is ∙ same }
 
+-- what is answered over the manifests that were read of a box tree is answered over that
+pub boxes_answered : {E : Type 0} (hash : Alg → List ℕ → List ℕ) (said : Question → Verdict) (file : List ℕ) (c : Container)
+    (start len : ℕ) (t : Tree) (rs : List Reading) (r : Result Answer E) → AreReadings (manifests_of t) rs
+    → IfOk r (AnswersOver hash said file c start len rs) → IfOk r (IsTreeAnswered hash said c start len t file)
+boxes_answered hash said file c start len t rs (Ok a) reads h = λ contained expected k.
+    sym (tree_answered hash said file c start len t rs a expected contained reads h k)
+boxes_answered hash said file c start len t rs (Err e) reads h = tt
+
 -- each file has an answer
 abbrev pub EachAnswer : Type 0
 EachAnswer =
@@ -137,17 +137,6 @@ store_answers answers each hash said file o checked bytes from h =
     read_answers answers each hash said file o.container.now o.range.start o.range.length from.tree (readings_of o)
     (answer_as checked) bytes from.container from.opened from.reads (λ m i b has. (h m i b has).answer)
 
--- an opened store with this container, this range and these manifests is checked over them
-pub over_opened : (hash : Alg → List ℕ → List ℕ) (said : Question → Verdict) (file : List ℕ) (o : OpenedStore)
-    (c : Container) (start len : ℕ) (rs : List Reading) (checked : Checked) → o.container.now ≡ c
-    → o.range.start ≡ start → o.range.length ≡ len → readings_of o ≡ rs → IsCheckedOver hash said o file checked
-    → AnswersOver hash said file c start len rs (answer_as checked)
-over_opened hash said file o c start len rs checked contained starts long reads h =
-    subst (λ (x : Container). AnswersOver hash said file x start len rs (answer_as checked)) contained
-    (subst (λ (n : ℕ). AnswersOver hash said file o.container.now n len rs (answer_as checked)) starts
-    (subst (λ (n : ℕ). AnswersOver hash said file o.container.now o.range.start n rs (answer_as checked)) long
-    (subst (λ (xs : List Reading). AnswersOver hash said file o.container.now o.range.start o.range.length xs (answer_as checked)) reads (λ m i b has. (h m i b has).answer))))
-
 -- what is asked of a file is asked of its opened store
 pub store_asks :
     (hash : Alg → List ℕ → List ℕ) (said : Question → Verdict) (file : List ℕ) (o : OpenedStore) (qs : List Question)
@@ -171,6 +160,11 @@ pub opened_read : (file : List ℕ) (m : MediaFile) (r : StoreRead) → IsFound 
     → IsOpened file (tree_of m.found r)
 opened_read file m r h k = (here m.found.start m.found.length m.found.store, h.located, k.store)
 
+-- what a file with a store is opened as, the store is opened as
+found_store : (file : List ℕ) (m : MediaFile) (what : Opening Tree) → IsFound file (opened.Here m) → IsOpened file what
+    → IsManifestStore m.found.start m.found.length m.found.store what
+found_store file m what h k = subst (λ (l : Located). Opens IsManifestStore l what) (h.only k.0 k.1) k.2
+
 -- ---- what is asked of a file whose bytes may be known
 
 -- nothing, where it has no store
@@ -187,13 +181,57 @@ pub known_refused : (known : Option (List ℕ)) (hash : Alg → List ℕ → Lis
 known_refused known hash said reason number qs is asks =
     opened_asks hash said asks.0 (refused reason number) qs (is asks.0 asks.1) asks.2
 
--- what is asked over the manifests that were read of its store
-pub known_asks :
-    (known : Option (List ℕ)) (hash : Alg → List ℕ → List ℕ) (said : Question → Verdict) (m : MediaFile) (t : Tree)
-    (store : List ManifestBoxes) (rs : List Reading) (qs : List Question)
+-- what is asked over the store that was found in it
+pub known_media :
+    (known : Option (List ℕ)) (hash : Alg → List ℕ → List ℕ) (said : Question → Verdict) (m : MediaFile)
+    (qs : List Question)
     → ((file : List ℕ) → known ≡ Some file → IsFound file (opened.Here m))
-    → IsStoreRead m.found (read.Here t store) → AreReadings (manifests_of t) rs
-    → AsksKnown known (FileAsks hash) said qs → qs ≡ check_asks hash said rs
-known_asks known hash said m t store rs qs found is reads asks =
-    read_asks hash said asks.0 m.found.start m.found.length t rs qs
-    (opened_read asks.0 m (read.Here t store) (found asks.0 asks.1) is) reads asks.2
+    → AsksKnown known (FileAsks hash) said qs → MediaAsks hash m said qs
+known_media known hash said m qs found asks = by (found asks.0 asks.1) asks.2
+  where
+    by : {file : List ℕ} → IsFound file (opened.Here m) → CheckAsks hash said file qs → MediaAsks hash m said qs
+    by {file} h k = (k.0, found_store file m k.0 h k.1, k.2)
+
+-- ---- the store that was found
+
+-- what it is opened as is what was read of it
+read_as : (m : MediaFile) (r : StoreRead) (what : Opening Tree) → IsStoreRead m.found r
+    → IsManifestStore m.found.start m.found.length m.found.store what → what ≡ tree_of m.found r
+read_as m r what h is =
+    one_opening_store m.found.start m.found.length m.found.store what (tree_of m.found r) is h.store
+
+-- it is refused
+pub media_refused : (hash : Alg → List ℕ → List ℕ) (said : Question → Verdict) (file : List ℕ) (m : MediaFile)
+    (reason : Reason) (number : ℕ) → IsStoreRead m.found (read.Refused reason number)
+    → IsMediaAnswer hash said m file (answer.Refused reason number)
+media_refused hash said file m reason number h contained what is expected over =
+    subst (λ (w : Opening Tree). IsOpenedAnswer hash said file w expected)
+    (read_as m (read.Refused reason number) what h is) over
+
+-- what is answered over its box tree is answered over it
+pub media_boxes : {E : Type 0} (hash : Alg → List ℕ → List ℕ) (said : Question → Verdict) (file : List ℕ) (m : MediaFile)
+    (t : Tree) (s : List ManifestBoxes) (r : Result Answer E) → IsStoreRead m.found (read.Here t s)
+    → IfOk r (IsTreeAnswered hash said m.container m.found.start m.found.length t file)
+    → IfOk r (IsMediaAnswer hash said m file)
+media_boxes hash said file m t s (Ok a) h k = λ contained what is expected over.
+    k contained expected
+    (subst (λ (w : Opening Tree). IsOpenedAnswer hash said file w expected) (read_as m (read.Here t s) what h is) over)
+media_boxes hash said file m t s (Err e) h k = tt
+
+-- what is asked over it is asked over what was read of it
+pub media_asks : (hash : Alg → List ℕ → List ℕ) (said : Question → Verdict) (m : MediaFile) (r : StoreRead)
+    (qs : List Question) → IsStoreRead m.found r → MediaAsks hash m said qs
+    → OpenedAsks (check_asks hash said) (tree_of m.found r) qs
+media_asks hash said m r qs h k =
+    subst (λ (w : Opening Tree). OpenedAsks (check_asks hash said) w qs) (read_as m r k.0 h k.1) k.2
+
+-- what is answered over it is the answer of its file
+pub found_answered : {E : Type 0} → EachAnswer → (hash : Alg → List ℕ → List ℕ) (said : Question → Verdict)
+    (file : List ℕ) (m : MediaFile) (r : Result Answer E) → All (λ b. b < 2 ^ 8) file → IsFound file (opened.Here m)
+    → IfOk r (IsMediaAnswer hash said m file) → IfOk r (IsAnswered hash said file)
+found_answered each hash said file m (Ok a) bytes h k =
+    let only : (expected : Answer) → IsAnswer hash said file expected → expected ≡ a =
+    λ expected is. k h.container is.0 (found_store file m is.0 h is.1) expected is.2 in
+    let e = each hash said file bytes in
+    record { is = subst (IsAnswer hash said file) (only e.0 e.1) e.1; only = only }
+found_answered each hash said file m (Err e) bytes h k = tt

@@ -1,5 +1,6 @@
 -- A file with an external store has one answer and one list of questions at most; with its own store as that one, the file's answer.
 use Rattle.c2_opening.proofs.TheLaws.{one_opening_store}
+use Rattle.c2_read_manifests.proofs.TheLaws.{one_reading_file}
 use Rattle.c2_container.proofs.TheLaws.{each_media_file_is_located_once}
 use Rattle.std.proofs.Common.{◌≡◌, refl, sym, ◌∙◌, ap, subst, ℕ, ◌≤◌, Bool, true, false, List, length, nat_lt, Option, Some, None}
 use Rattle.std.proofs.lemmas.Bool.{le-ltb}
@@ -21,8 +22,9 @@ use Rattle.c2_rules.specs.declared.answer.Failing.{Failing}
 use Rattle.c2_validate.specs.External.{ExternalAsks, IsExternalAnswer, IsListAnswer, IsLocatedAnswer, IsSameAnswer, IsStoreAnswer, IsExternalStore, ListAsks, LocatedAsks}
 use Rattle.c2_validate.specs.declared.external.External.{External}
 use Rattle.c2_validate.specs.declared.external.External.TheVariants.{Of}
-use Rattle.c2_validate.proofs.OneCheck.{one_file_reading, one_opened_asks, one_tree_answer}
+use Rattle.c2_validate.proofs.OneCheck.{one_tree_answer}
 use Rattle.c2_lemmas.proofs.Numbers.{one_after}
+use Rattle.c2_rules.proofs.OneReading.{one_opened_asks}
 
 -- ---- one answer
 
@@ -145,7 +147,7 @@ own_store hash said file store start len t a e small h opened over k =
     one_opening_store 0 0 store list.0 (here 0 0 t) seen (in_no_range start len store t opened) in
     let there : IsStoreAnswer hash said file (here 0 0 t) e =
     subst (λ (o : Opening Tree). IsStoreAnswer hash said file o e) same list.2 in
-    let reading : over.0 ≡ there.1.0 = one_file_reading file t over.0 there.1.0 over.1 there.1.1 in
+    let reading : over.0 ≡ there.1.0 = one_reading_file file t over.0 there.1.0 over.1 there.1.1 in
     let s : StoreReading = over.0 in
     let mine : a ≡ store_answer hash said (length file) start len s = over.2 in
     let other : there.0 ≡ store_answer hash said (length file) 0 0 s = there.1.2 ∙ ap (store_answer hash said (length file) 0 0) (sym reading) in (

@@ -1,4 +1,5 @@
 pub mod External
+pub mod Boxes
 pub mod Checked
 pub mod Checks
 pub mod Counts

@@ -2,11 +2,13 @@
 ghost use Rattle.std.specs.Prelude.{◌≡◌, IfOk, map};
 ghost use Rattle.std.specs.Option.{ForSome};
 ghost use Rattle.c2_base.specs.Source.{ReadsSource};
+ghost use Rattle.c2_spec.specs.C2pa.Manifest.{IsStoreOf};
 ghost use Rattle.c2_spec.specs.Judges.Panel.{panel_says};
 ghost use Rattle.c2_rules.specs.Asking.{HearsPanel};
 ghost use Rattle.c2_calls_spec.specs.Asks.{AsksKnown};
 ghost use Rattle.c2_container.specs.Contained.{HasRootsInside};
 ghost use Rattle.c2_validate.specs.Checked.{HasTextSize, IsCheckedOver, IsCheckReadCause, StoreAsks, answer_as, validate_heard};
+ghost use Rattle.c2_validate.specs.Boxes.{BoxesAsk, IsAnsweredOver, IsBoxesAnswer, IsMediaAnswer, MediaAsks};
 ghost use Rattle.c2_validate.specs.Checks.{fault_of};
 ghost use Rattle.c2_validate.specs.Validation.{FileAsks, IsAnswered};
 
@@ -18,9 +20,11 @@ use c2_chain::{Chain, ChainError, active_manifest, check_active, of_store};
 use c2_hard_binding::{Bound, BoundText, check_binding};
 use c2_hash::Hashing;
 use c2_judge::Judge;
-use c2_opening::types::{Container, Opened, StoreRead};
+use c2_jumbf::Tree;
+use c2_opening::types::{Container, Media, Opened, StoreRead};
 use c2_opening::{ValidateError, find_store, read_store};
 use c2_rules::{Answer, Failing, Summary};
+use c2_store::Store;
 use std::alloc::Global;
 
 /// A store that was opened, as it is checked against a media file.
@@ -114,6 +118,111 @@ pub fn check<S: Source, H: Hashing>(
     }
 }
 
+/// The answer of the check of an opened store.
+fn check_opened<S: Source, H: Hashing>(
+    alloc: Global,
+    hashing: &H,
+    source: &mut S,
+    store: &OpenedStore<'_, '_>,
+    judges: &mut Vec<Box<dyn Judge>>,
+) -> Result<Answer, ValidateError>
+    requires { HasRootsInside (S.len source.old) store.now.container.now }
+    ensures answer { let said = panel_says (map says judges.old.items) in
+        ForSome (S.known source.old)
+        (λ file. IfOk result (IsAnsweredOver H.digest_of said store.now file)) }
+    ensures reads { ReadsSource S.len S.known S.faults IsCheckReadCause
+        source.old source.new result }
+    ensures panel { HearsPanel says asked_times judge_faults validate_heard
+        (StoreAsks H.digest_of store.now) judges.old judges.new result }
+{
+    match check(alloc, hashing, source, store, judges) {
+        Ok(checked) => Ok(answer(checked)),
+        Err(error) => Err(error),
+    }
+}
+
+/// The boxes of a store, as its manifests are checked against a media file.
+#[derive(Clone, Copy)]
+pub struct StoreBoxes<'s> {
+    /// The container of the media file.
+    pub container: &'s Container,
+
+    /// The embedded range of the store in the file; that of an external store has the length 0.
+    pub range: Range,
+
+    /// The box tree of the store.
+    pub tree: &'s Tree<'s>,
+
+    /// The boxes of its manifests.
+    pub manifests: &'s Store,
+}
+
+/// The answer over the boxes of a store: its manifests are read, and then checked as [`check`] does.
+pub fn check_boxes<S: Source, H: Hashing>(
+    alloc: Global,
+    hashing: &H,
+    source: &mut S,
+    boxes: &StoreBoxes<'_>,
+    judges: &mut Vec<Box<dyn Judge>>,
+) -> Result<Answer, ValidateError>
+    requires roots { HasRootsInside (S.len source.old) boxes.now.container.now }
+    requires manifests { IsStoreOf boxes.now.tree.now boxes.now.manifests.now }
+    ensures answer { let said = panel_says (map says judges.old.items) in
+        ForSome (S.known source.old)
+        (λ file. IfOk result (IsBoxesAnswer H.digest_of said boxes.now file)) }
+    ensures reads { ReadsSource S.len S.known S.faults IsCheckReadCause
+        source.old source.new result }
+    ensures panel { HearsPanel says asked_times judge_faults validate_heard
+        (BoxesAsk H.digest_of boxes.now) judges.old judges.new result }
+{
+    // Matched and not handed up by `?`: each way out has clauses of its own.
+    let chain = match of_store(alloc, boxes.tree, boxes.manifests) {
+        Ok(chain) => chain,
+        Err(NoMemory) => return Err(ValidateError::NoMemory),
+    };
+    let opened = OpenedStore {
+        container: boxes.container,
+        range: boxes.range,
+        chain: &chain,
+    };
+    check_opened(alloc, hashing, source, &opened, judges)
+}
+
+/// The answer of the check of a media file that has this store.
+fn check_media<S: Source, H: Hashing>(
+    alloc: Global,
+    hashing: &H,
+    source: &mut S,
+    media: &Media,
+    judges: &mut Vec<Box<dyn Judge>>,
+) -> Result<Answer, ValidateError>
+    requires { HasRootsInside (S.len source.old) media.now.container }
+    ensures answer { let said = panel_says (map says judges.old.items) in
+        ForSome (S.known source.old)
+        (λ file. IfOk result (IsMediaAnswer H.digest_of said media.now file)) }
+    ensures reads { ReadsSource S.len S.known S.faults IsCheckReadCause
+        source.old source.new result }
+    ensures panel { HearsPanel says asked_times judge_faults validate_heard
+        (MediaAsks H.digest_of media.now) judges.old judges.new result }
+{
+    match read_store(alloc, &media.found) {
+        Ok(StoreRead::Here(tree, manifests)) => {
+            let boxes = StoreBoxes {
+                container: &media.container,
+                range: Range {
+                    start: media.found.start,
+                    length: media.found.length,
+                },
+                tree: &tree,
+                manifests: &manifests,
+            };
+            check_boxes(alloc, hashing, source, &boxes, judges)
+        }
+        Ok(StoreRead::Refused(reason, number)) => Ok(Answer::Refused(reason, number)),
+        Err(NoMemory) => Err(ValidateError::NoMemory),
+    }
+}
+
 /// Checks a media file: its container, its store, the rules of its reached manifests from the last to the first, and the
 /// binding of the active one to its bytes (C2PA Technical Specification 2.x, "Validation").
 ///
@@ -138,31 +247,13 @@ pub fn validate<S: Source, H: Hashing>(
         (AsksKnown (S.known source.old) (FileAsks H.digest_of)) judges.old judges.new result }
 {
     each_file_has_a_check();
-    let media = match find_store(alloc, source) {
-        Ok(Opened::Here(media)) => media,
-        Ok(Opened::NoStore(_)) => return Ok(Answer::NoStore),
-        Ok(Opened::Refused(reason, number)) => return Ok(Answer::Refused(reason, number)),
+    let opened = match find_store(alloc, source) {
+        Ok(opened) => opened,
         Err(error) => return Err(error),
     };
-    let (tree, store) = match read_store(alloc, &media.found) {
-        Ok(StoreRead::Here(tree, store)) => (tree, store),
-        Ok(StoreRead::Refused(reason, number)) => return Ok(Answer::Refused(reason, number)),
-        Err(NoMemory) => return Err(ValidateError::NoMemory),
-    };
-    let chain = match of_store(alloc, &tree, &store) {
-        Ok(chain) => chain,
-        Err(NoMemory) => return Err(ValidateError::NoMemory),
-    };
-    let opened = OpenedStore {
-        container: &media.container,
-        range: Range {
-            start: media.found.start,
-            length: media.found.length,
-        },
-        chain: &chain,
-    };
-    match check(alloc, hashing, source, &opened, judges) {
-        Ok(checked) => Ok(answer(checked)),
-        Err(error) => Err(error),
+    match opened {
+        Opened::Here(media) => check_media(alloc, hashing, source, &media, judges),
+        Opened::NoStore(_) => Ok(Answer::NoStore),
+        Opened::Refused(reason, number) => Ok(Answer::Refused(reason, number)),
     }
 }

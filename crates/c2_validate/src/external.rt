@@ -1,19 +1,21 @@
 // The check of a media file with an external manifest store, one that isn't embedded in it.
-ghost use Rattle.std.specs.Prelude.{◌≡◌, IfOk, map};
+ghost use Rattle.std.specs.Prelude.{◌≤◌, IfOk, length, map};
 ghost use Rattle.std.specs.Option.{ForSome};
 ghost use Rattle.c2_base.specs.Source.{ReadsSource};
+ghost use Rattle.c2_base.specs.declared.limits.TheConstants.{MAX_STORE_LEN};
+ghost use Rattle.c2_spec.specs.C2pa.Manifest.{IsStoreOf};
 ghost use Rattle.c2_spec.specs.Judges.Panel.{panel_says};
 ghost use Rattle.c2_rules.specs.Asking.{HearsPanel};
 ghost use Rattle.c2_calls_spec.specs.Asks.{AsksKnown};
 ghost use Rattle.c2_container.specs.Contained.{HasRootsInside};
+ghost use Rattle.c2_validate.specs.Boxes.{BoxesAsk, IsStoreOfAnswer};
 ghost use Rattle.c2_validate.specs.External.{ExternalAsks, IsAnsweredExternal, IsListAnswered, ListAsks};
 ghost use Rattle.c2_validate.specs.Checked.{IsCheckReadCause, validate_heard};
 
-use crate::checking::{OpenedStore, answer, check};
+use crate::checking::{StoreBoxes, check_boxes};
 use crate::laws::{each_file_has_an_external_check, one_external_check};
 use c2_base::limits::MAX_STORE_LEN;
 use c2_base::{NoMemory, Range, Source};
-use c2_chain::{Chain, of_store};
 use c2_container::Container;
 use c2_hash::Hashing;
 use c2_judge::Judge;
@@ -33,23 +35,67 @@ pub enum External {
     StoreRefused(Reason, u64),
 }
 
-// An external store has no range in the file.
-const NO_RANGE: Range = Range {
-    start: 0,
-    length: 0,
-};
-
-/// An external store of a media file of this container, as it is checked against the file.
-fn opened_external<'c, 't>(container: &'c Container, chain: &'c Chain<'t>) -> OpenedStore<'c, 't>
-    ensures container { result.container.now ≡ container.now }
-    ensures start { result.range.start ≡ 0 }
-    ensures count { result.range.length ≡ 0 }
-    ensures chain { result.chain.now ≡ chain.now }
+/// What is answered over the boxes of an external store.
+fn check_store<S: Source, H: Hashing>(
+    alloc: Global,
+    hashing: &H,
+    source: &mut S,
+    boxes: &StoreBoxes<'_>,
+    judges: &mut Vec<Box<dyn Judge>>,
+) -> Result<External, ValidateError>
+    requires roots { HasRootsInside (S.len source.old) boxes.now.container.now }
+    requires manifests { IsStoreOf boxes.now.tree.now boxes.now.manifests.now }
+    ensures answer { let said = panel_says (map says judges.old.items) in
+        ForSome (S.known source.old)
+        (λ file. IfOk result (IsStoreOfAnswer H.digest_of said boxes.now file)) }
+    ensures reads { ReadsSource S.len S.known S.faults IsCheckReadCause
+        source.old source.new result }
+    ensures panel { HearsPanel says asked_times judge_faults validate_heard
+        (BoxesAsk H.digest_of boxes.now) judges.old judges.new result }
 {
-    OpenedStore {
-        container,
-        range: NO_RANGE,
-        chain,
+    match check_boxes(alloc, hashing, source, boxes, judges) {
+        Ok(answer) => Ok(External::Of(answer)),
+        Err(error) => Err(error),
+    }
+}
+
+/// What is answered over an external store that is no longer than a store may be: its boxes and its manifests, and then the rest.
+fn check_list<S: Source, H: Hashing>(
+    alloc: Global,
+    hashing: &H,
+    source: &mut S,
+    container: &Container,
+    store: &[u8],
+    judges: &mut Vec<Box<dyn Judge>>,
+) -> Result<External, ValidateError>
+    requires roots { HasRootsInside (S.len source.old) container.now }
+    requires small { length store.now ≤ MAX_STORE_LEN }
+    ensures answer { let said = panel_says (map says judges.old.items) in
+        ForSome (S.known source.old)
+        (λ file. IfOk result (IsListAnswered H.digest_of said container.now store.now file)) }
+    ensures reads { ReadsSource S.len S.known S.faults IsCheckReadCause
+        source.old source.new result }
+    ensures panel { HearsPanel says asked_times judge_faults validate_heard
+        (ListAsks H.digest_of store.now) judges.old judges.new result }
+{
+    // Matched and not handed up by `?`: each way out has clauses of its own.
+    match read_tree(alloc, store) {
+        Ok(StoreRead::Here(tree, manifests)) => {
+            // An external store has no range in the file.
+            let range = Range {
+                start: 0,
+                length: 0,
+            };
+            let boxes = StoreBoxes {
+                container,
+                range,
+                tree: &tree,
+                manifests: &manifests,
+            };
+            check_store(alloc, hashing, source, &boxes, judges)
+        }
+        Ok(StoreRead::Refused(reason, number)) => Ok(External::StoreRefused(reason, number)),
+        Err(NoMemory) => Err(ValidateError::NoMemory),
     }
 }
 
@@ -78,23 +124,7 @@ pub fn check_external<S: Source, H: Hashing>(
     if store.len() > MAX_STORE_LEN as usize {
         return Ok(External::StoreRefused(Reason::StoreTooLarge, store.len() as u64));
     }
-    // Matched and not handed up by `?`, here and below: each way out has clauses of its own.
-    let (tree, boxes) = match read_tree(alloc, store) {
-        Ok(StoreRead::Here(tree, boxes)) => (tree, boxes),
-        Ok(StoreRead::Refused(reason, number)) => {
-            return Ok(External::StoreRefused(reason, number));
-        }
-        Err(NoMemory) => return Err(ValidateError::NoMemory),
-    };
-    let chain = match of_store(alloc, &tree, &boxes) {
-        Ok(chain) => chain,
-        Err(NoMemory) => return Err(ValidateError::NoMemory),
-    };
-    let opened = opened_external(container, &chain);
-    match check(alloc, hashing, source, &opened, judges) {
-        Ok(checked) => Ok(External::Of(answer(checked))),
-        Err(error) => Err(error),
-    }
+    check_list(alloc, hashing, source, container, store, judges)
 }
 
 /// Checks a media file with an external manifest store, and not with one that may be embedded in it: the file's container, and then as

@@ -1,9 +1,28 @@
-use Rattle.std.proofs.Common.{inr, rules, tests}
+use Rattle.std.proofs.Common.{◌≡◌, ◌∙◌, List, Option, Some, None, ap, inr, rules, sym}
+use Rattle.c2_spec.specs.Bmff.Hash.{Exclusion}
+use Rattle.c2_spec.specs.Cbor.Fields.{require}
+use Rattle.c2_spec.specs.Cbor.Item.{Item}
 use Rattle.c2_spec.specs.Cbor.View.{view}
-use Rattle.c2_assertion.proofs.PathFault.{path_fault}
+use Rattle.c2_spec.specs.declared.assertion.FieldError.TheVariants.{Form}
+use Rattle.c2_assertion.specs.Reading.{bmff_hash_from, digest_of}
+use Rattle.c2_assertion.specs.declared.digest.Digest.{Digest}
+use Rattle.c2_assertion.proofs.ReadParts.{bmff_left, same_answer}
 use Rattle.c2_assertion.proofs.bmff_hash.read_bmff_hash.Goals as goal
 
--- a hash of which only the paths are wrong, as one enters a box that none may enter, is refused for them
-pub returns-then-enters_otherwise : goal.returns-then-enters_otherwise
-returns-then-enters_otherwise c =
-    inr (path_fault (view c.args.item.now) c.in-Some.exclusions c.in-Some-2.alg c.in-Some-3.hash (search rules) (search rules) (search rules) (search rules) (search rules) (search (rules, tests)) (search rules) (search rules))
+-- without a digest of its form there is no hash
+pub returns-in_default-2 : goal.returns-in_default-2
+returns-in_default-2 c =
+    let v : Item = view c.args.item.now in
+    let es : List Exclusion = c.in-Some.exclusions in
+    let none : digest_of v ≡ None = search rules in
+    inr
+    (bmff_left v es (search rules) (search rules) (search rules) ∙ ap (λ (d : Option Digest). require Form d (bmff_hash_from v es)) none)
+
+-- with one, the exclusions are left to test
+pub returns : goal.returns
+returns c =
+    let v : Item = view c.args.item.now in
+    let es : List Exclusion = c.in-Some.exclusions in
+    let digest : digest_of v ≡ Some c.in-Some-2.digest = search rules in
+    same_answer _ _ c.hash_of.result
+    (c.hash_of.ensures ∙ sym (bmff_left v es (search rules) (search rules) (search rules) ∙ ap (λ (d : Option Digest). require Form d (bmff_hash_from v es)) digest))

@@ -6,7 +6,7 @@ use Rattle.c2_spec.specs.Cover.{is_excluded}
 use Rattle.c2_bmff_excluded.specs.Marks.{excludes_row}
 use Rattle.c2_bmff_rows.specs.Rows.{IsBoxWithin, rows_of}
 use Rattle.c2_bmff_rows.specs.declared.row.RootBox.{RootBox}
-use Rattle.c2_bmff_rows.proofs.BoxThere.{are_bytes}
+use Rattle.c2_lemmas.proofs.Bytes.{are_bytes}
 use Rattle.c2_bmff_rows.proofs.Lists.{rows_within}
 use Rattle.c2_bmff.proofs.MatchLemmas.{excluded_rows, rows_excluded}
 use Rattle.c2_bmff.proofs.matching.match_path.Goals as goal

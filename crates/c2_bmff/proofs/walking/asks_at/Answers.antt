@@ -1,5 +1,5 @@
 use Rattle.std.proofs.Common.{◌∙◌, List, get_or, sym, ap, arith}
-use Rattle.std.specs.List.{list_any, slice_get}
+use Rattle.std.specs.List.{list_any}
 use Rattle.std.proofs.lemmas.Option.{slice_get-get_or}
 use Rattle.c2_spec.specs.Bmff.Hash.{Exclusion}
 use Rattle.c2_bmff_excluded.specs.Marks.{SharedPath, marks, marks_any}

@@ -1,5 +1,5 @@
 use Rattle.std.proofs.Common.{◌≡◌, length, Some, None, arith}
-use Rattle.c2_bmff_rows.proofs.BoxThere.{are_bytes}
+use Rattle.c2_lemmas.proofs.Bytes.{are_bytes}
 use Rattle.c2_bmff_boxes.specs.Roots.{FillSource}
 use Rattle.c2_bmff_boxes.proofs.ChildLemmas.{list_is}
 use Rattle.c2_bmff_boxes.proofs.Filling.{fill_headed}

@@ -3,7 +3,7 @@ use Rattle.c2_base.specs.declared.media.MediaError.TheVariants.{TooManyBoxes}
 use Rattle.c2_spec.specs.Bmff.Boxes.{most_roots}
 use Rattle.c2_bmff_boxes.specs.Causes.{IsRootsCause}
 use Rattle.c2_bmff_boxes.specs.Roots.{FillSource, Walks, row_at}
-use Rattle.c2_bmff_rows.proofs.BoxThere.{are_bytes}
+use Rattle.c2_lemmas.proofs.Bytes.{are_bytes}
 use Rattle.c2_bmff_boxes.proofs.Filling.{fill_count, fill_more}
 use Rattle.c2_bmff_boxes.proofs.WalkLemmas.{many_fault, outside_map, room_fault, walks_end, walks_fault, walks_more, walks_start}
 use Rattle.c2_bmff_boxes.proofs.root_boxes.walk.Goals as goal

@@ -1,4 +1,4 @@
-use Rattle.std.proofs.Common.{◌≡◌, ◌∙◌, ◌+◌, ◌-◌, ◌&&◌, true, false, ℕ, List, length, take, drop, sym, ap, arith}
+use Rattle.std.proofs.Common.{◌≡◌, ◌∙◌, ◌+◌, ◌-◌, ◌≤◌, ◌&&◌, true, false, ℕ, List, [], ◌∷◌, length, take, drop, refl, sym, ap, arith}
 use Rattle.std.specs.Prelude.{bytes_eq}
 use Rattle.std.proofs.lemmas.List.{length-drop, take_all}
 use Rattle.c2_bmff_excluded.specs.Marks.{stands_at}
@@ -59,4 +59,37 @@ pieces-preserved g c =
           before.same file known ∙ split ∙ ap (λ b. b && stands_at file (c.pieces.at + n) (drop n rest)) front ∙ ap (stands_at file (c.pieces.at + n)) (sym tail);
       few = call.few;
       window = λ file known. call.window file (before.stays.same_bytes ∙ known);
+    }
+
+-- a value of no bytes stands everywhere
+none_stands : (file : List ℕ) (at : ℕ) (rest : List ℕ) → length rest ≤ 0 → stands_at file at rest ≡ true
+none_stands file at [] none = refl
+none_stands file at (x ∷ xs) none = absurd (omega (arith, none))
+
+-- where nothing is left of the value, it stands in the file
+pub returns-clause-stands : goal.returns-clause-stands
+returns-clause-stands g c file known =
+    sym
+    (c.pieces.invariant.same file known ∙ none_stands file c.pieces.at c.pieces.rest.now (omega (arith, c.pieces-test.false)))
+
+-- at first the whole value is left
+pub pieces-init : goal.pieces-init
+pieces-init g c = record {
+  inside = omega arith;
+  stays = record { same_len = refl; same_bytes = refl; later = omega arith };
+  count = refl;
+  same = λ file known. refl;
+  few = c.requires.few;
+  window = c.requires.window;
+}
+
+-- a piece is looked for before the end, and the window has bytes of the file
+pub window_at-requires : goal.window_at-requires
+window_at-requires g c =
+    let before = c.pieces.invariant in
+    record {
+      inside = omega (arith, before.inside, c.requires.inside, c.pieces-test.true);
+      end = omega (arith, before.stays.same_len, c.requires.end);
+      few = before.few;
+      window = λ file known. before.window file (sym before.stays.same_bytes ∙ known);
     }

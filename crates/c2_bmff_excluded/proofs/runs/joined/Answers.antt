@@ -1,9 +1,10 @@
 use Rattle.std.proofs.Common.{◌≡◌, ◌∙◌, ◌&&◌, ◌+◌, ◌≤◌, ◌∷◌, ◌++◌, [], Bool, ℕ, List, length, get_or, take, max, false, sym, ap, subst, arith}
-use Rattle.std.specs.Prelude.{IfSome, map, nat_le}
+use Rattle.std.specs.Prelude.{All, IfSome, map, nat_le}
 use Rattle.std.specs.List.{list_all}
 use Rattle.std.proofs.lemmas.List.{get_or_default, take_all}
+use Rattle.std.proofs.lemmas.List.Elements.{All-push}
 use Rattle.c2_bmff_excluded.specs.Marks.{holds_test}
-use Rattle.c2_bmff_excluded.specs.Runs.{IsLastWithin, holds_last, holds_next, key_test, least_test, run_test}
+use Rattle.c2_bmff_excluded.specs.Runs.{IsLastWithin, IsRunWithin, holds_last, holds_next, key_test, least_test, run_test}
 use Rattle.c2_bmff_excluded.specs.declared.runs.Key.{Key}
 use Rattle.c2_bmff_excluded.specs.declared.runs.Run.{Run}
 use Rattle.c2_bmff_excluded.proofs.RunLemmas.{all_first, all_more, asked_is, holds_at, holds_short, no_box_false, no_key, one_more_test}
@@ -80,3 +81,11 @@ returns-clause-same c file r =
     ∙ before.same file r
     ∙ ap (λ (ks : List Key). list_all (holds_test file r) (map (key_test c.args.tests.now) ks))
     (take_all c.loop-key.key-index c.args.keys.now c.loop-key-test.false)
+
+-- and all of them are among the bytes
+pub returns-clause-within : goal.returns-clause-within
+returns-clause-within c =
+    let before = c.loop-key.invariant in
+    let n : ℕ = length c.loop-key.bytes.items in
+    subst (All (IsRunWithin n)) (sym c.in_ok-push.ensures.items)
+    (All-push (IsRunWithin n) c.loop-key.runs.items (record { offset = c.loop-key.last.offset; start = c.loop-key.last.start; end = c.len-end.result }) before.within (omega (arith, before.last, c.len-end.ensures), omega (arith, c.len-end.ensures)))

@@ -1,6 +1,7 @@
+use Rattle.c2_opening.proofs.TheLaws.{here_tree}
 use Rattle.std.proofs.Common.{refl}
 use Rattle.c2_build_refusals.specs.Stages.{fresh, stored}
-use Rattle.c2_build_base.proofs.Opened.{absent_stage, boxes_of, found_at, found_none, here_tree, refused_store}
+use Rattle.c2_build_base.proofs.Opened.{absent_stage, boxes_of, found_at, found_none, refused_store}
 use Rattle.c2_build_base.proofs.media.read_media.Goals as goal
 
 -- a file without a store

@@ -1,6 +1,6 @@
 use Rattle.c2_new_front_spec.proofs.TheLaws.{a_front_comes_to_one_thing_made, a_made_front_meets_the_rules}
 use Rattle.std.proofs.Common.{List, refl, subst, sym, ℕ, ◌∙◌}
-use Rattle.std.specs.Prelude.{Err, Ok}
+use Rattle.std.specs.Prelude.{Ok}
 use Rattle.c2_copying.specs.Writing.{Breaks, Delivers, IsOverSpare, ending_of}
 use Rattle.c2_bmff_binding_front.specs.Putting.{with_store}
 use Rattle.c2_new_front_spec.specs.Outcomes.{IsFrontMade}

@@ -1,7 +1,8 @@
 use Rattle.std.proofs.Common.{◌≡◌, ℕ, ◌++◌, length, take, drop, [], refl, sym, ◌∙◌, subst, arith, append-nil, append_assoc}
 use Rattle.std.proofs.lemmas.List.{length-take-le}
 use Rattle.c2_build_parts.specs.Bound.{HasTaken}
-use Rattle.c2_build_parts.proofs.Pieces.{piece_none, read_piece}
+use Rattle.c2_build_parts.proofs.Pieces.{read_piece}
+use Rattle.c2_copying.proofs.TheLaws.{piece_none}
 use Rattle.c2_build_parts.proofs.digesting.hash_piece.Goals as goal
 
 -- with one piece more, the state has taken so many bytes more

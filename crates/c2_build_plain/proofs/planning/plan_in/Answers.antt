@@ -1,15 +1,17 @@
 use Rattle.c2_opening.proofs.TheLaws.{one_opening_file}
 use Rattle.c2_definition.proofs.TheLaws.{each_definition_is_read_one_way_one}
+use Rattle.c2_lemmas.proofs.Stages.{stage_value}
 use Rattle.std.proofs.Common.{map, refl}
 use Rattle.std.specs.Prelude.{Err}
 use Rattle.c2_spec.specs.Judges.Panel.{panel_says}
 use Rattle.c2_calls_spec.proofs.SourceLemmas.{reads_nothing, stays_as_it_was}
+use Rattle.c2_definition.specs.DefinitionFile.{IsDefinition}
 use Rattle.c2_build_refusals.specs.Stages.{IsDefinitionStage, IsMediaStage}
+use Rattle.c2_build_refusals.specs.declared.error.BuildError.TheVariants.{BadDefinition}
 use Rattle.c2_build_refusals.proofs.Stages.{comes_first, comes_next}
 use Rattle.c2_build_refusals.proofs.Judged.{hears_as, hears_none, quiet_unheard, read_unheard}
 use Rattle.c2_build_refusals.proofs.Inputs.{not_both_media, told_where_due}
 use Rattle.c2_build_refusals.proofs.Outside.{alone, plain_cause, quiet_cause, reads_among, reads_earlier}
-use Rattle.c2_build_plain.proofs.NewFile.{defined_of}
 use Rattle.c2_build_plain.proofs.Unasked.{planned_asks, refused_plan, undefined_plan}
 use Rattle.c2_build_refusals.specs.Kinds.{judge_effects, no_effects}
 use Rattle.c2_build_plain.proofs.planning.plan_in.Goals as goal
@@ -80,7 +82,8 @@ returns-clause-planned g c = λ file known bytes due.
     let stage = c.in-Ok-read_definition_file.ensures.stage bytes told in
     comes_next (IsMediaStage file) _ media.0 c.plan_over.result media.1
     (comes_next (IsDefinitionStage bytes) _ d c.plan_over.result stage
-    (c.plan_over.ensures.planned file known media.0 media.2 (bytes, defined_of bytes d stage)))
+    (c.plan_over.ensures.planned file known media.0 media.2
+    (bytes, stage_value BadDefinition (IsDefinition bytes) d stage)))
 
 pub returns-clause-not_due : goal.returns-clause-not_due
 returns-clause-not_due g c = λ file known refused.

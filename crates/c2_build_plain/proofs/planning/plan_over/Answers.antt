@@ -1,5 +1,4 @@
 use Rattle.std.proofs.Common.{map, subst, ◌∙◌, sym, ℕ}
-use Rattle.std.proofs.lemmas.Result.{IfOk-weaker}
 use Rattle.c2_spec.specs.Judges.Panel.{panel_says}
 use Rattle.c2_new_file_spec.specs.Store.{new_alg}
 use Rattle.c2_without_store.specs.Clears.{cleared_len}
@@ -7,9 +6,8 @@ use Rattle.c2_build_refusals.specs.Kinds.{judge_effects, no_effects}
 use Rattle.c2_build_refusals.proofs.Judged.{hears_behind, hears_failed, read_result}
 use Rattle.c2_build_refusals.proofs.Outside.{outside_map, reads_behind}
 use Rattle.c2_build_parts.specs.Bound.{IsSmall}
-use Rattle.c2_build_plain.specs.Building.{IsPlannedOver, signed_bytes}
-use Rattle.c2_build_plain.proofs.Drawn.{passed_plan, refused_plan}
-use Rattle.c2_build_plain.proofs.NewStores.{planned_by, same_signed}
+use Rattle.c2_build_plain.proofs.Drawn.{refused_plan}
+use Rattle.c2_build_plain.proofs.NewStores.{planned_by}
 use Rattle.c2_build_plain.proofs.planning.plan_over.Goals as goal
 
 -- the place is refused
@@ -28,12 +26,9 @@ signed_draft-requires-clause-small g c =
 pub returns-clause-planned : goal.returns-clause-planned
 returns-clause-planned g c = λ bytes known kind is of_file.
     let said = panel_says (map (λ j. (goal.Judge-dyn g (j.vtable, j.value)).says j.value) c.args.judges.now.items) in
-    let hash = g.H.Hashing.digest_of in
-    let d = c.args.definition.now in
-    let at = c.in-Ok.ensures.passed bytes known kind is in
-    planned_by (IsPlannedOver hash said bytes kind d) c.signed_draft.result (signed_bytes hash at.ground at.place)
-    (IfOk-weaker c.signed_draft.result _ _ (λ tbs signed. signed bytes (c.in-Ok.ensures.reads.stays.same_bytes ∙ known) at.ground at.place at.over ∙ same_signed hash d at.ground at.place at.over.ground.content.definition) c.signed_draft.ensures.signed)
-    c.signed_draft.ensures.nothing (passed_plan hash said bytes kind d at.ground at.place at.passed)
+    planned_by g.H.Hashing.digest_of said bytes kind c.args.definition.now c.in-Ok.drafted
+    (g.A.Source.known c.draft_over.new.media) c.signed_draft.result (c.in-Ok.ensures.passed bytes known kind is)
+    (c.in-Ok.ensures.reads.stays.same_bytes ∙ known) c.signed_draft.ensures.signed c.signed_draft.ensures.nothing
 
 -- ---- what is left of the media, and what judges hear
 

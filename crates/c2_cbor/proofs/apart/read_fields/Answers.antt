@@ -1,16 +1,15 @@
-use Rattle.std.proofs.Common.{◌≡◌, ◌++◌, ◌∷◌, suc, length, [], ap, ◌∙◌, sym, subst, arith, ◌<◌}
-use Rattle.std.proofs.lemmas.Result.{err_from_is_err_and}
+use Rattle.std.proofs.Common.{◌≡◌, ◌++◌, ◌∷◌, suc, length, [], refl, ap, ◌∙◌, sym, subst, arith, ◌<◌}
 use Rattle.std.proofs.lemmas.List.{map_push, length_push}
 use Rattle.std.specs.Option.{option_or}
 use Rattle.c2_spec.specs.Cbor.Item.{Item}
 use Rattle.c2_spec.specs.Cbor.Deterministic.{preferred}
 use Rattle.c2_spec.specs.Cbor.View.{view}
-use Rattle.c2_spec.specs.declared.cbor.Cbor.{Cbor}
+use Rattle.c2_spec.specs.declared.cbor.Cbor.{Cbor, Simple}
 use Rattle.c2_cbor.specs.Apart.{pairs_with, whole_value}
 use Rattle.c2_cbor_spec.specs.Reading.{is_known, with_key, pairs, pairs_seen, item_at}
 use Rattle.c2_cbor_spec.specs.Tracking.{keys_of, first_equal}
 use Rattle.c2_cbor.proofs.HeldApart.{IsThere, apart_on, there_on}
-use Rattle.c2_cbor.proofs.KeyFaults.{until_none, until_fault, until_next, until_key}
+use Rattle.c2_cbor.proofs.KeyFaults.{until_none, until_first, until_next, until_key}
 use Rattle.c2_cbor.proofs.Loops.{pairs_on, pairs_wrong, pairs_wrong_value, pairs_out, pairs_same}
 use Rattle.c2_cbor_spec.proofs.Shorter.{under_ok, item_at-under}
 use Rattle.c2_cbor_spec.proofs.Tracks.{keys_push}
@@ -28,26 +27,12 @@ pub returns-in-Err : goal.returns-in-Err
 returns-in-Err c =
     let total =
     pairs is_known (item_at is_known c.args.levels) (suc (length c.args.bytes.now)) c.args.count [] c.args.bytes.now in
-    pairs_wrong is_known (item_at is_known c.args.levels) (item_at-under is_known c.args.levels) total
-    (pairs_with c.args.name.now c.loop-after.texts (pairs_seen c.loop-after.found.items)) (keys_of c.loop-after.found.items) c.loop-after.rest.now c.loop-after.due c.in-Err.e (sym c.in-None.ensures) c.in-Err.ensures
-    (until_none c.loop-after.found.items _ c.loop-after.places.items total _ c.as_slice-in-Err.ensures.value c.in_ok-check_keys-in-Err.ensures.distinct c.loop-after.invariant.0)
-
-pub returns-in_err-check_keys-in-Err-read_value : goal.returns-in_err-check_keys-in-Err-read_value
-returns-in_err-check_keys-in-Err-read_value c =
-    let total =
-    pairs is_known (item_at is_known c.args.levels) (suc (length c.args.bytes.now)) c.args.count [] c.args.bytes.now in
-    let p =
-    err_from_is_err_and c.from_residual-in_err-check_keys-in-Err-read_value.result
-    c.from_residual-in_err-check_keys-in-Err-read_value.ensures.1 in
-    let item = item_at is_known c.args.levels in
-    let under = item_at-under is_known c.args.levels in
     let found = c.loop-after.found.items in
     let whole = pairs_with c.args.name.now c.loop-after.texts (pairs_seen found) in
-    let key = until_key item under total whole found c.push_member.new.members.items (c.in-Ok.read.0, _)
-    c.in_ok-push_member-in-Err-read_value.ensures c.loop-after.places.items c.push.new.self.items
-    c.loop-after.rest.now c.loop-after.due c.in-Ok.read.1.now c.in_ok-push.ensures.items c.loop-after.invariant.1
-    (sym c.in-None.ensures) c.in-Ok.ensures c.loop-after.invariant.0 in
-    rw (p.1, p.2) (until_fault c.push_member.new.members.items _ c.push.new.self.items total _ c.as_slice-in-Err-read_value.ensures.value _ _ c.as_slice-in-Err-read_value-2.ensures.value c.in_err-check_keys-in-Err-read_value.ensures.equal key)
+    until_first found _ c.loop-after.places.items total _ c.as_slice-in-Err.ensures.value _ c.in-Err.e _
+    c.as_slice-in-Err-2.ensures.value c.first_fault.ensures
+    (pairs_wrong is_known (item_at is_known c.args.levels) (item_at-under is_known c.args.levels) total whole (keys_of found) c.loop-after.rest.now c.loop-after.due c.in-Err.e (sym c.in-None.ensures) c.in-Err.ensures)
+    c.loop-after.invariant.0
 
 pub returns-in-Err-read_value : goal.returns-in-Err-read_value
 returns-in-Err-read_value c =
@@ -57,16 +42,15 @@ returns-in-Err-read_value c =
     let under = item_at-under is_known c.args.levels in
     let found = c.loop-after.found.items in
     let whole = pairs_with c.args.name.now c.loop-after.texts (pairs_seen found) in
-    let key = until_key item under total whole found c.push_member.new.members.items (c.in-Ok.read.0, _)
-    c.in_ok-push_member-in-Err-read_value.ensures c.loop-after.places.items c.push.new.self.items
-    c.loop-after.rest.now c.loop-after.due c.in-Ok.read.1.now c.in_ok-push.ensures.items c.loop-after.invariant.1
-    (sym c.in-None.ensures) c.in-Ok.ensures c.loop-after.invariant.0 in
-    let go =
-    until_none c.push_member.new.members.items _ c.push.new.self.items total _
-    c.as_slice-in-Err-read_value.ensures.value c.in_ok-check_keys-in-Err-read_value.ensures.distinct key in
-    pairs_wrong_value is_known item under total whole (keys_of found) c.loop-after.rest.now c.loop-after.due
-    c.in-Err-read_value.e (view c.in-Ok.read.0) c.in-Ok.read.1.now (sym c.in-None.ensures) c.in-Ok.ensures go.1
-    c.in-Err-read_value.ensures.value go.0
+    let later = found ++ (c.in-Ok.read.0, Simple 22) ∷ [] in
+    let key = until_key item under total whole found later (c.in-Ok.read.0, Simple 22) refl
+    c.loop-after.places.items c.push.new.self.items c.loop-after.rest.now c.loop-after.due c.in-Ok.read.1.now
+    c.in_ok-push.ensures.items c.loop-after.invariant.1 (sym c.in-None.ensures) c.in-Ok.ensures
+    c.loop-after.invariant.0 in
+    until_first later later c.push.new.self.items total _ refl _ c.in-Err-read_value.e _ c.as_slice-kept.ensures.value
+    c.first_fault_after.ensures
+    (λ go. pairs_wrong_value is_known item under total whole (keys_of found) c.loop-after.rest.now c.loop-after.due c.in-Err-read_value.e (view c.in-Ok.read.0) c.in-Ok.read.1.now (sym c.in-None.ensures) c.in-Ok.ensures go.1 c.in-Err-read_value.ensures.value go.0)
+    key
 
 pub loop-after-smaller : goal.loop-after-smaller
 loop-after-smaller c =
@@ -86,7 +70,7 @@ loop-after-preserved c =
     let under = item_at-under is_known c.args.levels in
     let name = c.args.name.now in
     let found = c.loop-after.found.items in
-    let later = c.push_member-in-loop-after.new.members.items in
+    let later = c.push_member.new.members.items in
     let value = c.in-Ok-read_value.read.0 in
     let k : Item = view c.in-Ok.read.0 in
     let texts = option_or c.loop-after.texts value.texts in

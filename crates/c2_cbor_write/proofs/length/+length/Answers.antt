@@ -2,20 +2,22 @@ use Rattle.std.proofs.Common.{length, ap, refl}
 use Rattle.std.proofs.lemmas.List.{drop_all}
 use Rattle.c2_spec.specs.Cbor.View.{items_view, pairs_view}
 use Rattle.c2_spec.specs.Cbor.Deterministic.{preferred_items, preferred_pairs}
-use Rattle.c2_cbor_write.proofs.Lengths.{sum_on, sum_off, sum_done, length-Bytes, length-Text, length-List, length-Map, length-Tag}
+use Rattle.c2_cbor_write.proofs.Lengths.{sum_as, sum_on, sum_off, sum_done, length-Bytes, length-Text, length-List, length-Map, length-Tag}
 use Rattle.c2_cbor_write.proofs.length.+length.Goals as goal
 
-pub with_item-returns-in_ok-start-in-Bytes : goal.with_item-returns-in_ok-start-in-Bytes
-with_item-returns-in_ok-start-in-Bytes t c =
-    sum_on _ _ _ _ _ _ c.in_ok-start-in-Bytes.ensures c.checked_add-in-Bytes-2.ensures (length-Bytes c.args.item.now c.in-Bytes.bytes _ _ c.in-Bytes.is c.as_slice.ensures.value (c.head_len-in-Bytes.ensures 2))
+pub with_item-returns-in-Bytes : goal.with_item-returns-in-Bytes
+with_item-returns-in-Bytes t c =
+    sum_as _ _ _ _ (length-Bytes c.args.item.now c.in-Bytes.bytes _ _ c.in-Bytes.is c.as_slice.ensures.value refl)
+    (c.with_string.ensures 2)
 
-pub with_item-returns-in_ok-start-in-Text : goal.with_item-returns-in_ok-start-in-Text
-with_item-returns-in_ok-start-in-Text t c =
-    sum_on _ _ _ _ _ _ c.in_ok-start-in-Text.ensures c.checked_add-in-Text-2.ensures (length-Text c.args.item.now c.in-Text.text _ _ c.in-Text.is c.as_str.ensures.value (c.head_len-in-Text.ensures 3))
+pub with_item-returns-in-Text : goal.with_item-returns-in-Text
+with_item-returns-in-Text t c =
+    sum_as _ _ _ _ (length-Text c.args.item.now c.in-Text.text _ _ c.in-Text.is c.as_str.ensures.value refl)
+    (c.with_string-in-Text.ensures 3)
 
 pub with_item-returns-in_err-start-in-List : goal.with_item-returns-in_err-start-in-List
 with_item-returns-in_err-start-in-List t c =
-    sum_off _ _ _ _ _ c.from_residual-in_err-start-in-List.ensures c.in_err-start-in-List.ensures (length-List c.args.item.now c.in-List.items _ _ _ c.in-List.is c.len.ensures refl (c.head_len-in-List.ensures 4))
+    sum_off _ _ _ _ _ c.from_residual.ensures c.in_err-start-in-List.ensures (length-List c.args.item.now c.in-List.items _ _ _ c.in-List.is c.len.ensures refl (c.head_len-in-List.ensures 4))
 
 pub with_item-returns-in_ok-start-in-List : goal.with_item-returns-in_ok-start-in-List
 with_item-returns-in_ok-start-in-List t c =

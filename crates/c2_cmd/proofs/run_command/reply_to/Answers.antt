@@ -35,7 +35,8 @@ use Rattle.c2_cmd.specs.Sources.{the_fourth, the_second, the_third}
 use Rattle.c2_cmd.proofs.Causing.{caused_collected, caused_collecting, caused_compare, caused_copying, caused_embed, caused_media, caused_memory, caused_panel, caused_reading, caused_sample, caused_sources, caused_usage, caused_writing}
 use Rattle.c2_cmd.proofs.Commands.{begins_filed, early_by, held, left_where_known, media_told, message_due, message_left, other_due, other_left, replies_copied, replies_filed, replies_heard}
 use Rattle.c2_cmd.proofs.Commands.{replies_media, replies_memory, replies_silent, replies_to, replies_unheard, replies_usage, source_told, takes_none, told, unnamed_by}
-use Rattle.c2_cmd.proofs.Keeping.{begun_report, idle_memory, idle_out, undue, unused_by, unused_idle, written_out}
+use Rattle.c2_cmd.proofs.Keeping.{begun_report, idle_memory, idle_out, idle_panel, idle_report, undue, unused_by, unused_idle, written_out}
+use Rattle.c2_cmd.proofs.Leaving.{read_all, read_media, read_none, read_pair, read_three, read_two}
 use Rattle.c2_cmd.proofs.Unfiled.{compare_unfiled, digest_unfiled, external_unfiled, list_unfiled, plan_collect_unfiled, plan_front_unfiled, plan_unfiled, questions_unfiled, sample_unfiled, show_unfiled, validate_unfiled}
 use Rattle.c2_cmd.proofs.run_command.reply_to.Goals as goal
 
@@ -607,99 +608,183 @@ returns-in-Err-Usage-clause-unused g c = unused_idle refl refl refl refl refl re
 pub returns-in-Err-NoMemory-clause-unused : goal.returns-in-Err-NoMemory-clause-unused
 returns-in-Err-NoMemory-clause-unused g c = unused_idle refl refl refl refl refl refl
 
--- ---- what is left
+-- ---- what is left of each object
 
--- the new file of `embed`
-pub returns-in-Embed-clause-out : goal.returns-in-Embed-clause-out
-returns-in-Embed-clause-out g c = written_out c.reply_to_embed.ensures.out.writes c.reply_to_embed.ensures.out.ends
+-- by `digest`
+pub returns-in-Digest-clause-leaves : goal.returns-in-Digest-clause-leaves
+returns-in-Digest-clause-leaves g c = record {
+  sources = read_media c.reply_to_digest.ensures.media;
+  out = idle_out _ _ _ _ _ _ (unnamed_by is_out _ c.in-Ok.found command.Digest c.in-Ok.ensures c.in-Digest.is refl);
+  report = idle_report _ _ _ _ _ _;
+  judges = idle_panel _ _;
+}
 
--- the new file of `strip`
-pub returns-in-Strip-clause-out : goal.returns-in-Strip-clause-out
-returns-in-Strip-clause-out g c = written_out c.reply_to_strip.ensures.writes c.reply_to_strip.ensures.ends
+-- by `list`
+pub returns-in-List-clause-leaves : goal.returns-in-List-clause-leaves
+returns-in-List-clause-leaves g c = record {
+  sources = read_media c.reply_to_list.ensures.media;
+  out = idle_out _ _ _ _ _ _ (unnamed_by is_out _ c.in-Ok.found command.List c.in-Ok.ensures c.in-List.is refl);
+  report = idle_report _ _ _ _ _ _;
+  judges = idle_panel _ _;
+}
 
--- the new file of `extract`
-pub returns-in-Extract-clause-out : goal.returns-in-Extract-clause-out
-returns-in-Extract-clause-out g c = written_out c.reply_to_extract.ensures.writes c.reply_to_extract.ensures.ends
+-- by `show`
+pub returns-in-Show-clause-leaves : goal.returns-in-Show-clause-leaves
+returns-in-Show-clause-leaves g c = record {
+  sources = read_media c.reply_to_show.ensures.media;
+  out = idle_out _ _ _ _ _ _ (unnamed_by is_out _ c.in-Ok.found command.Show c.in-Ok.ensures c.in-Show.is refl);
+  report = idle_report _ _ _ _ _ _;
+  judges = idle_panel _ _;
+}
 
--- the new file of `embed-front`
-pub returns-in-EmbedFront-clause-out : goal.returns-in-EmbedFront-clause-out
-returns-in-EmbedFront-clause-out g c =
-    written_out c.reply_to_embed_front.ensures.out.writes c.reply_to_embed_front.ensures.out.ends
+-- by `questions`
+pub returns-in-Questions-clause-leaves : goal.returns-in-Questions-clause-leaves
+returns-in-Questions-clause-leaves g c = record {
+  sources = read_media c.reply_to_questions.ensures.media;
+  out =
+      idle_out _ _ _ _ _ _ (unnamed_by is_out _ c.in-Ok.found command.Questions c.in-Ok.ensures c.in-Questions.is refl);
+  report = idle_report _ _ _ _ _ _;
+  judges = c.reply_to_questions.ensures.panel.stays;
+}
 
--- the new file of `embed-collect`
-pub returns-in-EmbedCollect-clause-out : goal.returns-in-EmbedCollect-clause-out
-returns-in-EmbedCollect-clause-out g c =
-    written_out c.reply_to_embed_collect.ensures.ends.out.writes c.reply_to_embed_collect.ensures.ends.out.ends
+-- by `validate`
+pub returns-in-Validate-clause-leaves : goal.returns-in-Validate-clause-leaves
+returns-in-Validate-clause-leaves g c = record {
+  sources = read_media c.reply_to_validate.ensures.media;
+  out =
+      idle_out _ _ _ _ _ _ (unnamed_by is_out _ c.in-Ok.found command.Validate c.in-Ok.ensures c.in-Validate.is refl);
+  report = idle_report _ _ _ _ _ _;
+  judges = c.reply_to_validate.ensures.panel.stays;
+}
 
--- the report of `compare`
-pub returns-in-Compare-clause-report : goal.returns-in-Compare-clause-report
-returns-in-Compare-clause-report g c =
-    begun_report _ _ _ _ _ _ _ c.reply_to_compare.result c.reply_to_compare.ensures.report.writes
-    c.reply_to_compare.ensures.report.judged (early_by _ c.in-Ok.found command.Compare c.in-Ok.ensures c.in-Compare.is refl)
+-- by `compare`
+pub returns-in-Compare-clause-leaves : goal.returns-in-Compare-clause-leaves
+returns-in-Compare-clause-leaves g c = record {
+  sources = read_two c.reply_to_compare.ensures.media c.reply_to_compare.ensures.second;
+  out =
+      idle_out _ _ _ _ _ _ (unnamed_by is_out _ c.in-Ok.found command.Compare c.in-Ok.ensures c.in-Compare.is refl);
+  report = begun_report _ _ _ _ _ _ _ c.reply_to_compare.result c.reply_to_compare.ensures.report.writes
+      c.reply_to_compare.ensures.report.judged
+      (early_by _ c.in-Ok.found command.Compare c.in-Ok.ensures c.in-Compare.is refl);
+  judges = c.reply_to_compare.ensures.panel.stays;
+}
 
--- `digest` writes no file
-pub returns-in-Digest-clause-out : goal.returns-in-Digest-clause-out
-returns-in-Digest-clause-out g c =
-    idle_out _ _ _ _ _ _ (unnamed_by is_out _ c.in-Ok.found command.Digest c.in-Ok.ensures c.in-Digest.is refl)
+-- by `plan`
+pub returns-in-Plan-clause-leaves : goal.returns-in-Plan-clause-leaves
+returns-in-Plan-clause-leaves g c = record {
+  sources = read_two c.reply_to_plan.ensures.sources.media c.reply_to_plan.ensures.sources.definition;
+  out = idle_out _ _ _ _ _ _ (unnamed_by is_out _ c.in-Ok.found command.Plan c.in-Ok.ensures c.in-Plan.is refl);
+  report = idle_report _ _ _ _ _ _;
+  judges = c.reply_to_plan.ensures.panel.stays;
+}
 
--- `list` writes no file
-pub returns-in-List-clause-out : goal.returns-in-List-clause-out
-returns-in-List-clause-out g c =
-    idle_out _ _ _ _ _ _ (unnamed_by is_out _ c.in-Ok.found command.List c.in-Ok.ensures c.in-List.is refl)
+-- by `validate-external`
+pub returns-in-ValidateExternal-clause-leaves : goal.returns-in-ValidateExternal-clause-leaves
+returns-in-ValidateExternal-clause-leaves g c = record {
+  sources = read_two c.reply_to_validate_external.ensures.media c.reply_to_validate_external.ensures.second;
+  out =
+      idle_out _ _ _ _ _ _ (unnamed_by is_out _ c.in-Ok.found command.ValidateExternal c.in-Ok.ensures c.in-ValidateExternal.is refl);
+  report = idle_report _ _ _ _ _ _;
+  judges = c.reply_to_validate_external.ensures.panel.stays;
+}
 
--- `show` writes no file
-pub returns-in-Show-clause-out : goal.returns-in-Show-clause-out
-returns-in-Show-clause-out g c =
-    idle_out _ _ _ _ _ _ (unnamed_by is_out _ c.in-Ok.found command.Show c.in-Ok.ensures c.in-Show.is refl)
+-- by `embed`
+pub returns-in-Embed-clause-leaves : goal.returns-in-Embed-clause-leaves
+returns-in-Embed-clause-leaves g c = record {
+  sources = read_three c.reply_to_embed.ensures.sources.media c.reply_to_embed.ensures.sources.definition
+      c.reply_to_embed.ensures.sources.message;
+  out = written_out c.reply_to_embed.ensures.out.writes c.reply_to_embed.ensures.out.ends;
+  report = idle_report _ _ _ _ _ _;
+  judges = c.reply_to_embed.ensures.panel.stays;
+}
 
--- `questions` writes no file
-pub returns-in-Questions-clause-out : goal.returns-in-Questions-clause-out
-returns-in-Questions-clause-out g c =
-    idle_out _ _ _ _ _ _ (unnamed_by is_out _ c.in-Ok.found command.Questions c.in-Ok.ensures c.in-Questions.is refl)
+-- by `sample`
+pub returns-in-Sample-clause-leaves : goal.returns-in-Sample-clause-leaves
+returns-in-Sample-clause-leaves g c = record {
+  sources = read_none;
+  out = idle_out _ _ _ _ _ _ (unnamed_by is_out _ c.in-Ok.found command.Sample c.in-Ok.ensures c.in-Sample.is refl);
+  report = idle_report _ _ _ _ _ _;
+  judges = c.reply_to_sample.ensures.panel.stays;
+}
 
--- `validate` writes no file
-pub returns-in-Validate-clause-out : goal.returns-in-Validate-clause-out
-returns-in-Validate-clause-out g c =
-    idle_out _ _ _ _ _ _ (unnamed_by is_out _ c.in-Ok.found command.Validate c.in-Ok.ensures c.in-Validate.is refl)
+-- by `strip`
+pub returns-in-Strip-clause-leaves : goal.returns-in-Strip-clause-leaves
+returns-in-Strip-clause-leaves g c = record {
+  sources = read_media c.reply_to_strip.ensures.media;
+  out = written_out c.reply_to_strip.ensures.writes c.reply_to_strip.ensures.ends;
+  report = idle_report _ _ _ _ _ _;
+  judges = idle_panel _ _;
+}
 
--- `compare` writes no file
-pub returns-in-Compare-clause-out : goal.returns-in-Compare-clause-out
-returns-in-Compare-clause-out g c =
-    idle_out _ _ _ _ _ _ (unnamed_by is_out _ c.in-Ok.found command.Compare c.in-Ok.ensures c.in-Compare.is refl)
+-- by `extract`
+pub returns-in-Extract-clause-leaves : goal.returns-in-Extract-clause-leaves
+returns-in-Extract-clause-leaves g c = record {
+  sources = read_media c.reply_to_extract.ensures.media;
+  out = written_out c.reply_to_extract.ensures.writes c.reply_to_extract.ensures.ends;
+  report = idle_report _ _ _ _ _ _;
+  judges = idle_panel _ _;
+}
 
--- `plan` writes no file
-pub returns-in-Plan-clause-out : goal.returns-in-Plan-clause-out
-returns-in-Plan-clause-out g c =
-    idle_out _ _ _ _ _ _ (unnamed_by is_out _ c.in-Ok.found command.Plan c.in-Ok.ensures c.in-Plan.is refl)
+-- by `plan-front`
+pub returns-in-PlanFront-clause-leaves : goal.returns-in-PlanFront-clause-leaves
+returns-in-PlanFront-clause-leaves g c = record {
+  sources = read_two c.reply_to_plan_front.ensures.sources.media c.reply_to_plan_front.ensures.sources.definition;
+  out =
+      idle_out _ _ _ _ _ _ (unnamed_by is_out _ c.in-Ok.found command.PlanFront c.in-Ok.ensures c.in-PlanFront.is refl);
+  report = idle_report _ _ _ _ _ _;
+  judges = idle_panel _ _;
+}
 
--- `validate-external` writes no file
-pub returns-in-ValidateExternal-clause-out : goal.returns-in-ValidateExternal-clause-out
-returns-in-ValidateExternal-clause-out g c =
-    idle_out _ _ _ _ _ _
-    (unnamed_by is_out _ c.in-Ok.found command.ValidateExternal c.in-Ok.ensures c.in-ValidateExternal.is refl)
+-- by `embed-front`
+pub returns-in-EmbedFront-clause-leaves : goal.returns-in-EmbedFront-clause-leaves
+returns-in-EmbedFront-clause-leaves g c = record {
+  sources =
+      read_three c.reply_to_embed_front.ensures.sources.media c.reply_to_embed_front.ensures.sources.definition
+      c.reply_to_embed_front.ensures.sources.message;
+  out = written_out c.reply_to_embed_front.ensures.out.writes c.reply_to_embed_front.ensures.out.ends;
+  report = idle_report _ _ _ _ _ _;
+  judges = idle_panel _ _;
+}
 
--- `sample` writes no file
-pub returns-in-Sample-clause-out : goal.returns-in-Sample-clause-out
-returns-in-Sample-clause-out g c =
-    idle_out _ _ _ _ _ _ (unnamed_by is_out _ c.in-Ok.found command.Sample c.in-Ok.ensures c.in-Sample.is refl)
+-- by `plan-collect`
+pub returns-in-PlanCollect-clause-leaves : goal.returns-in-PlanCollect-clause-leaves
+returns-in-PlanCollect-clause-leaves g c = record {
+  sources =
+      read_pair c.reply_to_plan_collect.ensures.sources.media c.reply_to_plan_collect.ensures.sources.definition
+      c.reply_to_plan_collect.ensures.sources.other;
+  out =
+      idle_out _ _ _ _ _ _ (unnamed_by is_out _ c.in-Ok.found command.PlanCollect c.in-Ok.ensures c.in-PlanCollect.is refl);
+  report = idle_report _ _ _ _ _ _;
+  judges = c.reply_to_plan_collect.ensures.panel.stays;
+}
 
--- `plan-front` writes no file
-pub returns-in-PlanFront-clause-out : goal.returns-in-PlanFront-clause-out
-returns-in-PlanFront-clause-out g c =
-    idle_out _ _ _ _ _ _ (unnamed_by is_out _ c.in-Ok.found command.PlanFront c.in-Ok.ensures c.in-PlanFront.is refl)
+-- by `embed-collect`
+pub returns-in-EmbedCollect-clause-leaves : goal.returns-in-EmbedCollect-clause-leaves
+returns-in-EmbedCollect-clause-leaves g c = record {
+  sources =
+      read_all c.reply_to_embed_collect.ensures.sources.media c.reply_to_embed_collect.ensures.sources.definition
+      c.reply_to_embed_collect.ensures.sources.message c.reply_to_embed_collect.ensures.sources.other;
+  out = written_out c.reply_to_embed_collect.ensures.ends.out.writes c.reply_to_embed_collect.ensures.ends.out.ends;
+  report = idle_report _ _ _ _ _ _;
+  judges = c.reply_to_embed_collect.ensures.panel.stays;
+}
 
--- `plan-collect` writes no file
-pub returns-in-PlanCollect-clause-out : goal.returns-in-PlanCollect-clause-out
-returns-in-PlanCollect-clause-out g c =
-    idle_out _ _ _ _ _ _
-    (unnamed_by is_out _ c.in-Ok.found command.PlanCollect c.in-Ok.ensures c.in-PlanCollect.is refl)
-
--- nor do words that fit no command
-pub returns-in-Err-Usage-clause-out : goal.returns-in-Err-Usage-clause-out
-returns-in-Err-Usage-clause-out g c =
+-- by words that fit no command
+pub returns-in-Err-Usage-clause-leaves : goal.returns-in-Err-Usage-clause-leaves
+returns-in-Err-Usage-clause-leaves g c =
     let fits = c.in-Err-Usage.ensures in
-    idle_out _ _ _ _ _ _ (ap (names is_out) (rw c.in-Err-Usage.field-0-is at fits))
+    record {
+      sources = read_none;
+      out = idle_out _ _ _ _ _ _ (ap (names is_out) (rw c.in-Err-Usage.field-0-is at fits));
+      report = idle_report _ _ _ _ _ _;
+      judges = idle_panel _ _;
+    }
 
--- nothing is written where memory ran out before
-pub returns-in-Err-NoMemory-clause-out : goal.returns-in-Err-NoMemory-clause-out
-returns-in-Err-NoMemory-clause-out g c = idle_memory _ _ _ _ _
+-- where memory ran out before
+pub returns-in-Err-NoMemory-clause-leaves : goal.returns-in-Err-NoMemory-clause-leaves
+returns-in-Err-NoMemory-clause-leaves g c = record {
+  sources = read_none;
+  out = idle_memory _ _ _ _ _;
+  report = idle_report _ _ _ _ _ _;
+  judges = idle_panel _ _;
+}

@@ -2,7 +2,8 @@ use Rattle.std.proofs.Common.{◌≡◌, ℕ, ◌+◌, ◌-◌, take, length, re
 use Rattle.std.proofs.lemmas.List.{length-take-le}
 use Rattle.c2_base.specs.Sink.{Spends}
 use Rattle.c2_copying.specs.Writing.{IsCopyReadCause, IsCopyWriteCause, Puts, ending_of, piece_of}
-use Rattle.c2_copying.proofs.Kept.{reads_then, sink_stays, sink_still, writes_then}
+use Rattle.c2_copying.proofs.Kept.{reads_then, writes_then}
+use Rattle.c2_base.proofs.Growing.{stays_still, stays_then}
 use Rattle.c2_copying.proofs.Spares.{over_behind, spends_none, spends_two}
 use Rattle.c2_copying.proofs.Written.{next_breaks, next_piece, puts_none}
 use Rattle.c2_copying.proofs.copying.copy.Goals as goal
@@ -15,7 +16,7 @@ pieces-init g c = record {
   within = c.requires.ordered;
   read = record { same_len = refl; same_bytes = refl; later = omega arith };
   count = refl;
-  wrote = sink_still g.K.Sink.written g.K.Sink.finished g.K.Sink.faults c.args.sink.now;
+  wrote = stays_still g.K.Sink.written g.K.Sink.finished g.K.Sink.faults c.args.sink.now;
   out_count = refl;
   spent = spends_none (g.K.Sink.spare c.args.sink.now) (c.args.from - c.args.from) (omega arith);
   puts = λ file known. puts_none g.K.Sink.written g.K.Sink.spare g.K.Sink.finished file c.args.from c.args.sink.now;
@@ -63,7 +64,7 @@ pieces-preserved g c =
           c.copy_piece.new.source before.read call.reads.stays;
       count = call.reads.quiet ∙ before.count;
       wrote =
-          sink_stays g.K.Sink.written g.K.Sink.finished g.K.Sink.faults c.args.sink.now c.pieces.sink
+          stays_then g.K.Sink.written g.K.Sink.finished g.K.Sink.faults c.args.sink.now c.pieces.sink
           c.copy_piece.new.sink before.wrote call.writes.stays;
       out_count = call.writes.quiet ∙ before.out_count;
       spent =

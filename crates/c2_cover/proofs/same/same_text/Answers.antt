@@ -1,5 +1,6 @@
 use Rattle.std.proofs.Common.{◌≡◌, ◌≤◌, ℕ, ◌+◌, ◌-◌, ◌∙◌, Bool, ◌&&◌, List, ap, sym, arith, length}
 use Rattle.std.specs.Prelude.{bytes_eq}
+use Rattle.c2_base.proofs.Written.{source_stays}
 use Rattle.c2_cover.specs.Covers.{text_of}
 use Rattle.c2_cover.specs.Unread.{Lies, unread}
 use Rattle.c2_cover.proofs.UnreadLemmas.{both_none, ended_at, compared, pending}
@@ -133,3 +134,46 @@ pieces-preserved g c =
           c.refill-in-pieces.new.reader file copy lies lies2 small small2 in
           now ∙ prefixes ∙ ap (λ b. b && more) (sym c.if-not-same_slices.ensures);
     }
+
+-- what the calls leave of each source
+pub returns-then-count-eq0-clause-first : goal.returns-then-count-eq0-clause-first
+returns-then-count-eq0-clause-first g c = record {
+  stays =
+      source_stays g.A.Source.len g.A.Source.known g.A.Source.faults c.args.first.now c.pieces.first
+      c.refill.new.source c.pieces.invariant.first_stays c.in_ok-mine.ensures.stays;
+  quiet = c.in_ok-mine.ensures.cause.ok ∙ c.pieces.invariant.first_count;
+  cause = tt;
+}
+
+pub returns-then-count-eq0-clause-second : goal.returns-then-count-eq0-clause-second
+returns-then-count-eq0-clause-second g c = record {
+  stays =
+      source_stays g.B.Source.len g.B.Source.known g.B.Source.faults c.args.second.now c.pieces.second
+      c.refill-in-pieces.new.source c.pieces.invariant.second_stays c.in_ok-theirs.ensures.stays;
+  quiet = c.in_ok-theirs.ensures.cause.ok ∙ c.pieces.invariant.second_count;
+  cause = tt;
+}
+
+pub returns-then-not-same_slices-clause-first : goal.returns-then-not-same_slices-clause-first
+returns-then-not-same_slices-clause-first g c = record {
+  stays =
+      source_stays g.A.Source.len g.A.Source.known g.A.Source.faults c.args.first.now c.pieces.first
+      c.refill.new.source c.pieces.invariant.first_stays c.in_ok-mine.ensures.stays;
+  quiet = c.in_ok-mine.ensures.cause.ok ∙ c.pieces.invariant.first_count;
+  cause = tt;
+}
+
+pub returns-then-not-same_slices-clause-second : goal.returns-then-not-same_slices-clause-second
+returns-then-not-same_slices-clause-second g c = record {
+  stays =
+      source_stays g.B.Source.len g.B.Source.known g.B.Source.faults c.args.second.now c.pieces.second
+      c.refill-in-pieces.new.source c.pieces.invariant.second_stays c.in_ok-theirs.ensures.stays;
+  quiet = c.in_ok-theirs.ensures.cause.ok ∙ c.pieces.invariant.second_count;
+  cause = tt;
+}
+
+-- the buffer isn't empty, and what is pending lies in it
+pub refill-requires : goal.refill-requires
+refill-requires g c =
+    let before = c.pieces.invariant in
+    record { room = before.left; size = before.first_stays.same_len ∙ before.size; lies = before.mine }

@@ -1,9 +1,12 @@
-use Rattle.std.proofs.Common.{◌∙◌}
-use Rattle.c2_layout.proofs.ClaimFields.{claim_given}
+use Rattle.std.proofs.Common.{◌≡◌, subst}
+use Rattle.std.specs.Prelude.{IfOk}
+use Rattle.c2_spec.specs.Cbor.Deterministic.{deterministic}
+use Rattle.c2_claim.specs.Written.{claim_item}
+use Rattle.c2_claim.specs.declared.writing.ClaimParts.{ClaimParts}
 use Rattle.c2_layout.proofs.claims.claim_of.Goals as goal
 
--- each field is that of the definition
+-- it is written of the definition's parts
 pub returns : goal.returns
-returns c = claim_given c.args.definition.now c.args.entries.items _ _ _ _ _ _ _ c.write.result (c.in_ok-copied.ensures ∙ c.as_str.ensures.value) (c.in_ok-copied-2.ensures ∙ c.as_str-2.ensures.value) (c.in_ok-copied-3.ensures ∙ c.as_str-3.ensures.value)
-    c.in_ok-copied_title.ensures (c.in_ok-copied-4.ensures ∙ c.alg_name.ensures) c.from_list.ensures
-    (c.in_ok-copied_texts.ensures ∙ c.as_slice.ensures) c.write.ensures.written
+returns c =
+    subst (λ (p : ClaimParts). IfOk c.write.result (λ claim. claim ≡ deterministic (claim_item p))) c.in_ok-parts.ensures
+    c.write.ensures.written

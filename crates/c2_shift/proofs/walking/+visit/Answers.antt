@@ -1,9 +1,10 @@
-use Rattle.std.proofs.Common.{◌≡◌, ◌∙◌, ℕ, zero, suc, ◌+◌, ◌-◌, ◌<◌, ◌==◌, false, List, [], ◌∷◌, ◌++◌, length, get_or, take, drop, Some, refl, sym, ap, subst, arith}
+use Rattle.std.proofs.Common.{◌≡◌, ◌∙◌, ℕ, zero, suc, ◌+◌, ◌-◌, ◌<◌, ◌==◌, false, List, [], ◌∷◌, ◌++◌, length, get_or, take, drop, Some, append-nil, refl, sym, ap, subst, arith}
 use Rattle.std.proofs.lemmas.List.{length-drop, take_rest}
 use Rattle.c2_bmff_rows.specs.Rows.{IsRowWithin}
 use Rattle.c2_bmff_rows.specs.declared.row.RootBox.{RootBox}
 use Rattle.c2_bmff_boxes.specs.Roots.{FillSource}
-use Rattle.c2_bmff_chunks.specs.Tables.{StandApart, inner}
+use Rattle.c2_bmff_chunks.specs.Refusals.{refusals_below}
+use Rattle.c2_bmff_chunks.specs.Tables.{StandApart, inner, tables_below}
 use Rattle.c2_bmff_chunks.specs.declared.table.ChunkTable.{ChunkTable}
 use Rattle.c2_shift.specs.Causes.{IsTablesCause}
 use Rattle.c2_shift.specs.Walking.{LieIn, Skips}
@@ -24,6 +25,21 @@ kinds_are : (kinds : List (List ℕ)) → false ≡ (length kinds == 0)
 kinds_are kinds e =
     first_of kinds [] (some_of (length kinds) e)
     ∙ ap (λ (xs : List (List ℕ)). get_or kinds 0 [] ∷ xs) (sym (take_rest kinds 1))
+
+-- a list of no length has no members
+none_of : {A : Type 0} (xs : List A) → length xs ≡ 0 → xs ≡ []
+none_of [] e = refl
+none_of (x ∷ xs) e = absurd (omega (arith, e))
+
+-- nothing is refused of no rows
+refusals_none : (file : List ℕ) (kinds : List (List ℕ)) → refusals_below file kinds [] ≡ []
+refusals_none file [] = refl
+refusals_none file (kind ∷ kinds) = refl
+
+-- and no tables are below them
+tables_none : (file : List ℕ) (kinds : List (List ℕ)) → tables_below file kinds [] ≡ []
+tables_none file [] = refl
+tables_none file (kind ∷ kinds) = refl
 
 -- the rows of other types at the front are passed
 pub rows-init : goal.rows-init
@@ -162,3 +178,16 @@ rows-preserved g t c =
           let end : r.start + r.length ≡ mid.0 + r.length = omega (arith, one.0) in
           skips_apart kind (drop 1 rest) left c.visit.new.tables.items high (mid.0 + r.length) skips one.3 (subst (λ n. StandApart 0 n c.visit.new.tables.items) end inner');
     }
+
+-- past the last row
+pub returns-clause-passed : goal.returns-clause-passed
+returns-clause-passed g t c file known =
+    let before = c.rows.invariant in
+    let kinds : List (List ℕ) = c.args.kinds.now in
+    let tables : List ChunkTable = c.rows.tables.items in
+    let none : c.rows.rest.now ≡ [] = none_of c.rows.rest.now (omega (arith, c.rows-test.false)) in (
+      before.refusals file known ∙ ap (refusals_below file kinds) none ∙ refusals_none file kinds,
+      sym (append-nil tables)
+          ∙ ap (λ (xs : List ChunkTable). tables ++ xs) (sym (ap (tables_below file kinds) none ∙ tables_none file kinds))
+          ∙ before.tables file known,
+    )

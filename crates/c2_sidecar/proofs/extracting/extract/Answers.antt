@@ -2,10 +2,10 @@ use Rattle.std.proofs.Common.{◌≤◌, IfSome, List, Option, ℕ, length, ap, 
 use Rattle.c2_base.specs.declared.limits.TheConstants.{MAX_STORE_LEN}
 use Rattle.c2_base.specs.declared.media.Found.{Found}
 use Rattle.c2_spec.specs.Located.{absent, here}
+use Rattle.c2_container.proofs.TheLaws.{said_absent, said_here}
 use Rattle.c2_sidecar.specs.Extracts.{IsExtracted}
 use Rattle.c2_sidecar.specs.declared.error.Extracted.TheVariants.{Done}
 use Rattle.c2_sidecar.proofs.Extraction.{all_written, located_is, part_written, refused_is, refused_room}
-use Rattle.c2_sidecar.proofs.Locating.{said_here, said_none}
 use Rattle.c2_sidecar.proofs.extracting.extract.Goals as goal
 
 -- the container is refused
@@ -19,7 +19,7 @@ returns-in-Err-clause-spare g c = refused_room c.in-Err.error c.refused.result _
 -- there is no store
 pub returns-in_default-clause-answer : goal.returns-in_default-clause-answer
 returns-in_default-clause-answer g c = λ file known.
-    located_is file absent (said_none file c.in-Ok.contained (c.in-Ok.ensures.said file known) (sym c.found_in.ensures ∙ c.in_default.is))
+    located_is file absent (said_absent file c.in-Ok.contained (c.in-Ok.ensures.said file known) (sym c.found_in.ensures ∙ c.in_default.is))
 
 -- the store is written
 pub returns-in-Ok-write_store-clause-answer : goal.returns-in-Ok-write_store-clause-answer

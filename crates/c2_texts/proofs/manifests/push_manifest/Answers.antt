@@ -12,11 +12,10 @@ push_labelled-requires c =
 -- what was written is the text of the manifest at this place
 pub returns : goal.returns
 returns c =
-    manifest_written c.args.tree.now c.assertions.result.now c.label.result.now c.is_update-update.result _
+    manifest_written c.args.tree.now c.assertions.result.now c.label.result.now c.is_update.result _
     (string_bytes c.args.out.now)
-    (string_bytes c.push_labelled.new.out) (string_bytes c.push_str.new.self)
-    (string_bytes c.push_claim_or_null.new.out) (string_bytes c.push_value.new.out)
-    (string_bytes c.push_value-2.new.out) (string_bytes c.push.new.self)
-    (slice_get c.args.store.now c.args.i) c.assertions.ensures c.label.ensures c.is_update-update.ensures
-    c.in_ok-push_labelled.ensures c.in_ok-push_str.ensures.bytes c.in_ok-push_claim_or_null.ensures (search rules)
-    (search rules) (search rules)
+    (string_bytes c.push_labelled.new.out) (string_bytes c.push_claim_member.new.out)
+    (string_bytes c.push_text.new.out) (string_bytes c.push_update.new.out) (string_bytes c.push.new.self)
+    (slice_get c.args.store.now c.args.i) c.assertions.ensures c.label.ensures c.is_update.ensures
+    c.in_ok-push_labelled.ensures c.in_ok-push_claim_member.ensures c.in_ok-push_text.ensures
+    c.in_ok-push_update.ensures (search rules)

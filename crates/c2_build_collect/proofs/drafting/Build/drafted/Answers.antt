@@ -1,6 +1,5 @@
 use Rattle.c2_collect_spec.proofs.TheLaws.{the_length_of_a_collected_store_fits_fits}
 use Rattle.std.proofs.Common.{inl, map, ℕ, sym, ◌∙◌, subst}
-use Rattle.std.specs.Prelude.{Err}
 use Rattle.std.proofs.lemmas.Result.{IfErr-weaker, IfOk-weaker}
 use Rattle.c2_spec.specs.Judges.Panel.{panel_says}
 use Rattle.c2_calls_spec.proofs.SourceLemmas.{reads_then}
@@ -49,7 +48,7 @@ pub returns-clause-drafted : goal.returns-clause-drafted
 returns-clause-drafted g c = λ bytes known kind is others told.
     let said = panel_says (map (λ j. (goal.Judge-dyn g (j.vtable, j.value)).says j.value) c.args.judges.now.items) in
     let hash = g.H.Hashing.digest_of in
-    let d = c.args.self.now.definition in
+    let d = c.args.self.now.definition.now in
     let k = c.in-Ok.ground in
     let what = opening_of kind in
     let kept = c.in-Ok.ensures.ground bytes known kind is others told in
@@ -68,7 +67,7 @@ returns-clause-drafted g c = λ bytes known kind is others told.
 
 pub returns-clause-small : goal.returns-clause-small
 returns-clause-small g c =
-    let d = c.args.self.now.definition in
+    let d = c.args.self.now.definition.now in
     let h = g.H.Hashing.digest_of (new_alg d) in
     IfOk-weaker c.draft_in_place.result _ _ (λ w small. small (g.A.Source.len c.args.media.now) h c.requires.within (subst (λ (x : Clearing). IsSomeGround h d x c.in-Ok.ground) c.requires.clears c.in-Ok.ensures.some)) c.draft_in_place.ensures.small
 

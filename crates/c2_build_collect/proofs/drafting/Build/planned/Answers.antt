@@ -1,5 +1,4 @@
 use Rattle.std.proofs.Common.{map, subst, sym, ℕ, ◌∙◌}
-use Rattle.std.specs.Prelude.{Err}
 use Rattle.std.proofs.lemmas.Result.{IfOk-weaker}
 use Rattle.c2_spec.specs.Judges.Panel.{panel_says}
 use Rattle.c2_new_file_spec.specs.Store.{new_alg}
@@ -19,7 +18,7 @@ use Rattle.c2_build_collect.proofs.drafting.Build.planned.Goals as goal
 pub returns-in-Err-clause-planned : goal.returns-in-Err-clause-planned
 returns-in-Err-clause-planned g c = λ of_file bytes known kind is others told.
     let said = panel_says (map (λ j. (goal.Judge-dyn g (j.vtable, j.value)).says j.value) c.args.judges.now.items) in
-    outside_map c.in-Err.error (planned_refused g.H.Hashing.digest_of said bytes others (opening_of kind) c.args.self.now.definition c.in-Err.error) (c.in-Err.ensures.drafted bytes known kind is others told of_file)
+    outside_map c.in-Err.error (planned_refused g.H.Hashing.digest_of said bytes others (opening_of kind) c.args.self.now.definition.now c.in-Err.error) (c.in-Err.ensures.drafted bytes known kind is others told of_file)
 
 pub returns-in-Err-clause-media : goal.returns-in-Err-clause-media
 returns-in-Err-clause-media g c =
@@ -37,14 +36,14 @@ returns-in-Err-clause-panel g c =
 
 pub signed_draft-requires-clause-small : goal.signed_draft-requires-clause-small
 signed_draft-requires-clause-small g c =
-    let d = c.args.self.now.definition in
+    let d = c.args.self.now.definition.now in
     subst (λ (n : ℕ). IsSmall (g.H.Hashing.digest_of (new_alg d)) (cleared_len c.in-Ok.drafted.ground.clearing n) d c.in-Ok.drafted) (sym c.in-Ok.ensures.media.stays.same_len) c.in-Ok.ensures.small
 
 pub returns-clause-planned : goal.returns-clause-planned
 returns-clause-planned g c = λ of_file bytes known kind is others told.
     let said = panel_says (map (λ j. (goal.Judge-dyn g (j.vtable, j.value)).says j.value) c.args.judges.now.items) in
     let hash = g.H.Hashing.digest_of in
-    let d = c.args.self.now.definition in
+    let d = c.args.self.now.definition.now in
     let what = opening_of kind in
     let at = c.in-Ok.ensures.drafted bytes known kind is others told in
     planned_by (Then (IsPairStage hash said bytes others what d) (IsPlannedOver hash d)) c.signed_draft.result

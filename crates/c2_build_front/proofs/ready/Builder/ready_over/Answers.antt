@@ -6,10 +6,12 @@ use Rattle.c2_calls_spec.proofs.SourceLemmas.{reads_next, reads_then}
 use Rattle.c2_new_signature.specs.Signed.{IsSigned}
 use Rattle.c2_spec.specs.C2pa.Sign1.{parts_of}
 use Rattle.c2_new_front_spec.specs.Outcomes.{IsMadeIn, new_file}
+use Rattle.c2_build_refusals.proofs.Doing.{message_step}
 use Rattle.c2_build_refusals.proofs.Outside.{nothing_said, outside_map}
-use Rattle.c2_build_front.proofs.Causes.{message_prepares, plan_prepares, prepares_of}
+use Rattle.c2_build_front.proofs.Causes.{plan_prepares, prepares_of}
 use Rattle.c2_build_front.proofs.Drafts.{made_of, reserve_refused}
 use Rattle.c2_build_front.proofs.Stages.{made_refuses, refused_over}
+use Rattle.c2_build_front.specs.Answers.{prepare_effects}
 use Rattle.c2_build_front.specs.Steps.{CanWrite}
 use Rattle.c2_build_front.proofs.ready.Builder.ready_over.Goals as goal
 
@@ -37,7 +39,8 @@ returns-in-Err-padded-clause-ready g c = λ bytes known kind is size.
 pub returns-in-Err-padded-clause-reads : goal.returns-in-Err-padded-clause-reads
 returns-in-Err-padded-clause-reads g c =
     reads_then _ _ _ _ _ c.args.media.now c.drafted.new.media c.in-Ok.front (Err c.in-Err-padded.error)
-    (prepares_of _ _ _ c.in-Ok.ensures.reads.quiet (message_prepares _ _ _ (c.in-Err-padded.ensures.cause _)))
+    (prepares_of _ _ _ c.in-Ok.ensures.reads.quiet
+    (message_step prepare_effects tt _ _ _ (c.in-Err-padded.ensures.cause _)))
     c.in-Ok.ensures.reads
 
 -- ---- a new file is ready
