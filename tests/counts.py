@@ -4,7 +4,7 @@
     counts.py [CRATE..]      a line for each crate, all of them where none is named, and one for all together
 
 Of the functions of a crate that are `pub`: how many, their clauses (the mean and the most), and how many have more than eight. Of all its
-functions: the most parameters, and how many have more than five, and more than six. Then how often `judges_of (` stands in its sources, and the
+functions: the most parameters, and how many have more than five, and more than six. Then how often `judges_of` stands in its sources, imports too, and the
 lines of code, of definitions and of proofs. Clauses are `requires` and `ensures`; `self` is a parameter.
 """
 
@@ -85,7 +85,7 @@ def counted(crates):
                     continue
                 with open(os.path.join(at, name), encoding="utf-8") as file:
                     text = file.read()
-                panels += text.count("judges_of (")
+                panels += len(re.findall(r"\bjudges_of\b", text))
                 code += text.count("\n")
                 for is_public, count, clauses in functions(text):
                     every.append(count)

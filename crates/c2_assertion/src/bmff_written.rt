@@ -4,7 +4,8 @@ ghost use Rattle.c2_spec.specs.Cbor.Item as item;
 ghost use Rattle.c2_spec.specs.Cbor.View.{view};
 ghost use Rattle.c2_bmff_paths.specs.Exclusions.{byte_test};
 ghost use Rattle.c2_spec.specs.Cbor.Writing.{field, field_if, pair_view};
-ghost use Rattle.c2_assertion.specs.Written.{bmff_hash_item, exclusion_item, exclusions_item, part_item, parts_item, test_item, tests_field};
+ghost use Rattle.c2_assertion.specs.Written.{bmff_hash_item, exclusion_item, exclusions_item};
+ghost use Rattle.c2_assertion.specs.Written.{part_item, parts_item, test_item, tests_field};
 
 use crate::bmff_hash::BmffHash;
 use crate::fields_written::{add_alg, add_bytes, add_field, add_text};

@@ -1,9 +1,11 @@
 //! What is read of the items that are written.
 
-ghost use Rattle.std.specs.Prelude.{◌≡◌, ◌↔◌, ◌+◌, ◌≤◌, All, List, Ok, Option, Some, length, true, ℕ};
+ghost use Rattle.std.specs.Prelude.{◌≡◌, ◌↔◌, ◌+◌, ◌≤◌, All, List, Ok, Option, Some, length, true};
+ghost use Rattle.std.specs.Prelude.{ℕ};
 ghost use Rattle.c2_base.specs.declared.values.Range.{Range};
 ghost use Rattle.c2_spec.specs.Bmff.Hash.{BmffHash, bmff_hash_of};
-ghost use Rattle.c2_spec.specs.C2pa.Assertion.{data_hash_of, ingredient_of, most_exclusions, references_agree};
+ghost use Rattle.c2_spec.specs.C2pa.Assertion.{data_hash_of, ingredient_of, most_exclusions};
+ghost use Rattle.c2_spec.specs.C2pa.Assertion.{references_agree};
 ghost use Rattle.c2_spec.specs.Cbor.Deterministic.{deterministic, sorted};
 ghost use Rattle.c2_spec.specs.Cbor.Plain.{HasPlainKeys};
 ghost use Rattle.c2_spec.specs.Digest.{alg_name, digest_len};
@@ -12,7 +14,8 @@ ghost use Rattle.c2_spec.specs.declared.assertion.Ingredient.{Ingredient};
 ghost use Rattle.c2_spec.specs.declared.assertion.IngredientVersion.TheVariants.{V3};
 ghost use Rattle.c2_spec.specs.declared.digest.Alg.{Alg};
 ghost use Rattle.c2_assertion.specs.ReadBack.{IsReadable};
-ghost use Rattle.c2_assertion.specs.Written.{bmff_hash_item, data_hash_item, ingredient_item, one_exclusion};
+ghost use Rattle.c2_assertion.specs.Written.{bmff_hash_item, data_hash_item, ingredient_item};
+ghost use Rattle.c2_assertion.specs.Written.{one_exclusion};
 
 /// The item of a data hash is read as that hash exactly where it has at most 1,024 exclusions.
 pub fn a_written_data_hash_is_read()

@@ -1,10 +1,12 @@
 // What the library knows of the outside.
-ghost use Rattle.std.specs.Prelude.{◌≡◌, ℕ, ◌-◌, ◌^◌, ◌<◌, Bool, true, List, All, length, IfOk, OnOk, OnErr};
+ghost use Rattle.std.specs.Prelude.{◌≡◌, ℕ, ◌-◌, ◌^◌, ◌<◌, Bool, true, List, All, length, IfOk};
+ghost use Rattle.std.specs.Prelude.{OnOk, OnErr};
 ghost use Rattle.std.specs.declared.option.Option.{Option};
 ghost use Rattle.std.specs.Option.{ForSome};
 ghost use Rattle.c2_base.specs.Causes.{HasCause};
 ghost use Rattle.c2_base.specs.Source.{StaysSource, IsReadCount, ReadsAt};
-ghost use Rattle.c2_base.specs.Sink.{taken, taken_len, Appends, Spends, OkWithinSpare, IsAppendCount};
+ghost use Rattle.c2_base.specs.Sink.{taken, taken_len, Appends, Spends, OkWithinSpare};
+ghost use Rattle.c2_base.specs.Sink.{IsAppendCount};
 
 use std::alloc::{AllocError, AllocFailed};
 

@@ -79,7 +79,8 @@ impl MemSink {
 
 impl Sink for MemSink {
     ghost use Rattle.std.specs.Prelude.{◌==◌, ◌-◌, Some, None, if◌then◌else◌};
-    ghost use Rattle.c2_base.specs.InMemory.{sink_state, append_fails, finish_fails, after_append, after_finish, room_for};
+    ghost use Rattle.c2_base.specs.InMemory.{sink_state, append_fails, finish_fails, after_append};
+    ghost use Rattle.c2_base.specs.InMemory.{after_finish, room_for};
 
     ghost written = { λ s. Some (sink_state s).bytes };
 

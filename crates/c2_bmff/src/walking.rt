@@ -1,5 +1,6 @@
 // A walk over boxes that visits each of them once for all exclusions.
-ghost use Rattle.std.specs.Prelude.{◌≡◌, ◌||◌, ◌+◌, ◌*◌, ◌<◌, [], ◌∷◌, ◌++◌, ℕ, List, All, OnOk, IfOk, IfErr, IfSome, is_some, cond, get_or, length, take, ◌≤◌};
+ghost use Rattle.std.specs.Prelude.{◌≡◌, ◌||◌, ◌+◌, ◌*◌, ◌<◌, [], ◌∷◌, ◌++◌, ℕ, List, All, OnOk};
+ghost use Rattle.std.specs.Prelude.{IfOk, IfErr, IfSome, is_some, cond, get_or, length, take, ◌≤◌};
 ghost use Rattle.std.specs.List.{list_any};
 ghost use Rattle.std.specs.Option.{ForSome};
 ghost use Rattle.c2_base.specs.Source.{StaysSource};
@@ -9,8 +10,11 @@ ghost use Rattle.c2_spec.specs.Cover.{is_excluded};
 ghost use Rattle.c2_bmff_boxes.specs.Causes.{IsBmffCaused, OrBmffFault};
 ghost use Rattle.c2_bmff_rows.specs.Rows.{IsRowWithin};
 ghost use Rattle.c2_bmff_rows.specs.Children.{kids};
-ghost use Rattle.c2_bmff_excluded.specs.Marks.{IsFront, IsRangeWithin, SharedPath, excludes_any, excludes_row, marks};
-ghost use Rattle.c2_bmff.specs.Trails.{IsLevelWithin, ahead, arrives, found, from_step, has_step, level_ahead, level_left, levels_left, no_exclusion, picks, through};
+ghost use Rattle.c2_bmff_excluded.specs.Marks.{IsFront, IsRangeWithin, SharedPath, excludes_any};
+ghost use Rattle.c2_bmff_excluded.specs.Marks.{excludes_row, marks};
+ghost use Rattle.c2_bmff.specs.Trails.{IsLevelWithin, ahead, arrives, found, from_step, has_step};
+ghost use Rattle.c2_bmff.specs.Trails.{level_ahead, level_left, levels_left, no_exclusion, picks};
+ghost use Rattle.c2_bmff.specs.Trails.{through};
 ghost use Rattle.c2_bmff_rows.specs.declared.row.RootBox.{RootBox};
 
 use crate::fronts::{fill_front, room_for};

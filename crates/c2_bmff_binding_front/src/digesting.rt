@@ -6,7 +6,8 @@ ghost use Rattle.c2_bmff_boxes.specs.Causes.{IsBmffCaused};
 ghost use Rattle.c2_spec.specs.Digest.{digest_len};
 ghost use Rattle.c2_spec.specs.PutIn.{put_in};
 ghost use Rattle.c2_bmff_binding_front.specs.Digests.{IsFileDigest, IsRootsDigest, IsUnrefused};
-ghost use Rattle.c2_bmff_binding_front.specs.Putting.{FitsIn, FitsMoved, FitsPiece, moved, with_blank};
+ghost use Rattle.c2_bmff_binding_front.specs.Putting.{FitsIn, FitsMoved, FitsPiece, moved};
+ghost use Rattle.c2_bmff_binding_front.specs.Putting.{with_blank};
 
 use crate::Front;
 use crate::frame::{FRAME_LEN, blank_box};

@@ -1,10 +1,12 @@
 // The boxes inside others.
-ghost use Rattle.std.specs.Prelude.{◌≡◌, ◌+◌, ◌≤◌, take, drop, All, OnOk, IfOk, IfErr, IfSome, option_map};
+ghost use Rattle.std.specs.Prelude.{◌≡◌, ◌+◌, ◌≤◌, take, drop, All, OnOk, IfOk, IfErr, IfSome};
+ghost use Rattle.std.specs.Prelude.{option_map};
 ghost use Rattle.std.specs.Option.{ForSome};
 ghost use Rattle.c2_base.specs.Causes.{HasCause};
 ghost use Rattle.c2_base.specs.Source.{ReadsSource, StaysSource};
 ghost use Rattle.c2_bmff_boxes.specs.Causes.{IsBmffCaused, OrBmffFault};
-ghost use Rattle.c2_bmff_boxes.specs.Children.{IsChildHead, IsHeadWithin, IsListOf, part_between, rows_between, rows_len};
+ghost use Rattle.c2_bmff_boxes.specs.Children.{IsChildHead, IsHeadWithin, IsListOf, part_between};
+ghost use Rattle.c2_bmff_boxes.specs.Children.{rows_between, rows_len};
 ghost use Rattle.c2_bmff_boxes.specs.Roots.{FillSource};
 ghost use Rattle.c2_bmff_rows.specs.Rows.{IsRowWithin};
 ghost use Rattle.c2_bmff_rows.specs.Children.{kids};

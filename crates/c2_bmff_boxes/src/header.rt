@@ -1,7 +1,8 @@
 // Headers of boxes.
 ghost use Rattle.std.specs.Prelude.{◌≡◌, ◌+◌, ◌<◌, ◌≤◌, length, take, drop, min, Some, IfOk, IfErr};
 ghost use Rattle.std.specs.Int.{w32, w64, from_be_bytes};
-ghost use Rattle.c2_bmff_boxes.specs.Headers.{head_fault, header_fault, IsBoxHead, IsHeader, lacks_user_type};
+ghost use Rattle.c2_bmff_boxes.specs.Headers.{head_fault, header_fault, IsBoxHead, IsHeader};
+ghost use Rattle.c2_bmff_boxes.specs.Headers.{lacks_user_type};
 
 // The type of a box that begins with a user type of 16 bytes.
 pub(crate) const UUID: [u8; 4] = *b"uuid";

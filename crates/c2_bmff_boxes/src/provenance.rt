@@ -1,5 +1,6 @@
 // The C2PA box among the root boxes.
-ghost use Rattle.std.specs.Prelude.{◌≡◌, ◌+◌, ◌-◌, ◌<◌, ◌≤◌, length, take, drop, min, All, bytes_eq, is_some, IfOk, IfErr, IfSome, OnOk, Ok, Some};
+ghost use Rattle.std.specs.Prelude.{◌≡◌, ◌+◌, ◌-◌, ◌<◌, ◌≤◌, length, take, drop, min, All};
+ghost use Rattle.std.specs.Prelude.{bytes_eq, is_some, IfOk, IfErr, IfSome, OnOk, Ok, Some};
 ghost use Rattle.std.specs.Option.{ForSome};
 ghost use Rattle.c2_base.specs.Causes.{HasCause};
 ghost use Rattle.c2_base.specs.Source.{StaysSource};
@@ -8,7 +9,8 @@ ghost use Rattle.c2_bmff_boxes.specs.Provenance.{first_part, payload_part, store
 ghost use Rattle.c2_bmff_rows.specs.Rows.{payload_at, IsRowWithin, IsBoxWithin};
 ghost use Rattle.c2_bmff_boxes.specs.Roots.{AreRootsOf};
 ghost use Rattle.c2_base.specs.declared.limits.TheConstants.{MAX_STORE_LEN};
-ghost use Rattle.c2_bmff_boxes.specs.Search.{FailsBy, IsFoundWithin, IsPartWithin, IsStoreOr, StepsBy};
+ghost use Rattle.c2_bmff_boxes.specs.Search.{FailsBy, IsFoundWithin, IsPartWithin, IsStoreOr};
+ghost use Rattle.c2_bmff_boxes.specs.Search.{StepsBy};
 
 use crate::header::{UUID, u32_at, u64_at};
 use crate::root_boxes::{Roots, fill_first};

@@ -1,5 +1,6 @@
 // What holds of chunk tables and of files with moved places; nothing is computed.
-ghost use Rattle.c2_bmff_chunks.specs.Laws.{ChunksStay, FieldsLieBehind, OneShifted, RootsAreShifted, SomeShifted, TablesStandApart};
+ghost use Rattle.c2_bmff_chunks.specs.Laws.{ChunksStay, FieldsLieBehind, OneShifted};
+ghost use Rattle.c2_bmff_chunks.specs.Laws.{RootsAreShifted, SomeShifted, TablesStandApart};
 
 /// Where tables stand apart in a file of bytes, exactly one file is that file with the places from one on moved.
 pub fn a_shifted_file_is_one()

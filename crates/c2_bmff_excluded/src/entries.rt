@@ -5,7 +5,8 @@ ghost use Rattle.std.specs.List.{list_any};
 ghost use Rattle.std.specs.List.Sorted.{IsPermutation};
 ghost use Rattle.c2_spec.specs.Bmff.Hash.{in_subset};
 ghost use Rattle.c2_bmff_excluded.specs.Marks.{excludes_any, excludes_row};
-ghost use Rattle.c2_bmff_excluded.specs.Parts.{AreRising, AskSame, ExcludeSame, MarkSame, ShareSame};
+ghost use Rattle.c2_bmff_excluded.specs.Parts.{AreRising, AskSame, ExcludeSame, MarkSame};
+ghost use Rattle.c2_bmff_excluded.specs.Parts.{ShareSame};
 ghost use Rattle.c2_bmff_rows.specs.declared.row.RootBox.{RootBox};
 
 use crate::parts::merged;

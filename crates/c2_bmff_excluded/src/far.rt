@@ -1,5 +1,6 @@
 // Byte tests on a box behind its first bytes, which are read in pieces that move on with what is asked.
-ghost use Rattle.std.specs.Prelude.{◌≡◌, ◌+◌, ◌<◌, ◌≤◌, is_some, map, All, IfOk, IfSome, length, take, drop, bytes_eq};
+ghost use Rattle.std.specs.Prelude.{◌≡◌, ◌+◌, ◌<◌, ◌≤◌, is_some, map, All, IfOk, IfSome, length};
+ghost use Rattle.std.specs.Prelude.{take, drop, bytes_eq};
 ghost use Rattle.std.specs.List.{list_all};
 ghost use Rattle.std.specs.Option.{ForSome};
 ghost use Rattle.c2_base.specs.Causes.{HasCause};

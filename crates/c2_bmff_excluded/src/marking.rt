@@ -1,5 +1,7 @@
 // The positions that an exclusion excludes.
-ghost use Rattle.std.specs.Prelude.{◌≡◌, true, false, ◌||◌, ◌&&◌, ◌+◌, ◌-◌, ◌<◌, ◌≤◌, ◌^◌, ℕ, List, [], map, All, OnOk, OnErr, IfOk, IfErr, IfSome, length, take, drop, bytes_eq, option_map, unwrap_or};
+ghost use Rattle.std.specs.Prelude.{◌≡◌, true, false, ◌||◌, ◌&&◌, ◌+◌, ◌-◌, ◌<◌, ◌≤◌, ◌^◌, ℕ, List};
+ghost use Rattle.std.specs.Prelude.{[], map, All, OnOk, OnErr, IfOk, IfErr, IfSome, length, take};
+ghost use Rattle.std.specs.Prelude.{drop, bytes_eq, option_map, unwrap_or};
 ghost use Rattle.std.specs.List.{list_all, list_any, slice_get};
 ghost use Rattle.std.specs.List.Sorted.{IsPermutation};
 ghost use Rattle.std.specs.Option.{ForSome};
@@ -9,7 +11,10 @@ ghost use Rattle.c2_spec.specs.Cover.{holds, is_excluded};
 ghost use Rattle.c2_bmff_boxes.specs.Causes.{IsBmffCaused, OrBmffFault};
 ghost use Rattle.c2_bmff_rows.specs.Rows.{IsRowWithin};
 ghost use Rattle.c2_bmff_excluded.specs.Parts.{AreRising, StartsBy};
-ghost use Rattle.c2_bmff_excluded.specs.Marks.{AreApart, GrowsWithin, IsFront, IsRangeWithin, has_length, holds_test, in_row, in_row_part, in_row_subset, is_row_in, joined_again, marks, takes};
+ghost use Rattle.c2_bmff_excluded.specs.Marks.{AreApart, GrowsWithin, IsFront, IsRangeWithin};
+ghost use Rattle.c2_bmff_excluded.specs.Marks.{has_length, holds_test, in_row, in_row_part};
+ghost use Rattle.c2_bmff_excluded.specs.Marks.{in_row_subset, is_row_in, joined_again, marks};
+ghost use Rattle.c2_bmff_excluded.specs.Marks.{takes};
 ghost use Rattle.c2_bmff_excluded.specs.Runs.{AreRunsWithin, IsRunWithin, asked, run_test};
 
 use crate::entries::Ask;

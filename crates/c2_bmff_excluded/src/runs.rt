@@ -1,8 +1,11 @@
 // Byte tests in the order of their offsets, joined into runs of bytes, so that of no box a byte is looked at twice.
-ghost use Rattle.std.specs.Prelude.{◌≡◌, true, false, ◌&&◌, ◌+◌, ◌≤◌, nat_le, ℕ, List, map, All, OnOk, IfOk, IfSome, length, take, bytes_eq};
+ghost use Rattle.std.specs.Prelude.{◌≡◌, true, false, ◌&&◌, ◌+◌, ◌≤◌, nat_le, ℕ, List, map, All};
+ghost use Rattle.std.specs.Prelude.{OnOk, IfOk, IfSome, length, take, bytes_eq};
 ghost use Rattle.c2_bmff_paths.specs.Exclusions.{byte_test};
 ghost use Rattle.c2_bmff_excluded.specs.Marks.{holds_test};
-ghost use Rattle.c2_bmff_excluded.specs.Runs.{AreRunsWithin, Differ, IsKeyWithin, IsLastWithin, IsRunWithin, Join, MeetAlike, asked, holds_last, holds_next, key_test};
+ghost use Rattle.c2_bmff_excluded.specs.Runs.{AreRunsWithin, Differ, IsKeyWithin, IsLastWithin};
+ghost use Rattle.c2_bmff_excluded.specs.Runs.{IsRunWithin, Join, MeetAlike, asked, holds_last};
+ghost use Rattle.c2_bmff_excluded.specs.Runs.{holds_next, key_test};
 ghost use Rattle.c2_bmff_rows.specs.declared.row.RootBox.{RootBox};
 
 use c2_base::{Blob, NoMemory};

@@ -1,5 +1,7 @@
 // Laws of BMFF files with a store and without.
-ghost use Rattle.c2_bmff_insert_spec.specs.Laws.{BaseHasNoStore, BaseIsOne, BuiltTextIsCovered, CoverIsBuiltText, EndIsCutOut, OthersKeepLengths, StoreIsNotCovered, StoreIsPutIn};
+ghost use Rattle.c2_bmff_insert_spec.specs.Laws.{BaseHasNoStore, BaseIsOne, BuiltTextIsCovered};
+ghost use Rattle.c2_bmff_insert_spec.specs.Laws.{CoverIsBuiltText, EndIsCutOut, OthersKeepLengths};
+ghost use Rattle.c2_bmff_insert_spec.specs.Laws.{StoreIsNotCovered, StoreIsPutIn};
 
 /// A file that a store is put into has the root boxes that it had and the store's box in its place; the store is found there; without
 /// it the file is what it was.

@@ -2,7 +2,8 @@
 ghost use Rattle.std.specs.Prelude.{◌≡◌, IfOk, option_map};
 ghost use Rattle.std.specs.List.{slice_split};
 ghost use Rattle.c2_spec.specs.C2pa.Uri.{after_piece, is_slash};
-ghost use Rattle.c2_spec.specs.Bmff.Paths.{each_step, enters_other, is_entered, is_step_kind, nth_of_text, path_of, step_of};
+ghost use Rattle.c2_spec.specs.Bmff.Paths.{each_step, enters_other, is_entered, is_step_kind};
+ghost use Rattle.c2_spec.specs.Bmff.Paths.{nth_of_text, path_of, step_of};
 ghost use Rattle.c2_bmff_paths.specs.PathTexts.{IsPathText, number_of_digits};
 
 use c2_base::{NoMemory, Text};

@@ -1,5 +1,6 @@
 // What a build asks of its judges whose new store collects; nothing is computed.
-ghost use Rattle.c2_build_collect.specs.Asked.{OneCollectAsks, OneCollectPlanAsks, SomeCollectAsks, SomeCollectPlanAsks};
+ghost use Rattle.c2_build_collect.specs.Asked.{OneCollectAsks, OneCollectPlanAsks, SomeCollectAsks};
+ghost use Rattle.c2_build_collect.specs.Asked.{SomeCollectPlanAsks};
 
 use c2_validate::each_file_has_a_check;
 

@@ -6,7 +6,9 @@ ghost use Rattle.c2_build_in_place.specs.Writings.{FitsOut};
 ghost use Rattle.c2_spec.specs.Judges.Panel.{panel_says};
 ghost use Rattle.c2_rules.specs.Asking.{HearsPanel};
 ghost use Rattle.c2_build_refusals.specs.Kinds.{build_heard};
-ghost use Rattle.c2_build_collect.specs.Answers.{AsksEmbedded, EmbedsCollected, ForEmbedInputs, IsEmbedCause, IsPrepareCause, LeavesBuildUndue, ReadsSignedPair};
+ghost use Rattle.c2_build_collect.specs.Answers.{AsksEmbedded, EmbedsCollected, ForEmbedInputs};
+ghost use Rattle.c2_build_collect.specs.Answers.{IsEmbedCause, IsPrepareCause, LeavesBuildUndue};
+ghost use Rattle.c2_build_collect.specs.Answers.{ReadsSignedPair};
 ghost use Rattle.c2_build_collect.specs.Steps.{IsBuildDrafted, IsPrepared};
 
 use crate::ready::{Builder, Maker};

@@ -16,7 +16,8 @@ ghost use Rattle.c2_build_in_place.specs.Numbers.{IsOfFile};
 ghost use Rattle.c2_build_drafts.specs.Drafts.{FitsMedia};
 ghost use Rattle.c2_build_collect_base.specs.Grounds.{PairHears};
 ghost use Rattle.c2_build_collect.specs.Answers.{AsksEmbedded, IsPrepareCause, LeavesBuildUndue};
-ghost use Rattle.c2_build_collect.specs.Steps.{ForFiles, IsBuildDrafted, IsBuildFor, IsBuildRead, IsDefinitionOf, IsOfSomeKind, LeavesOther, build_of};
+ghost use Rattle.c2_build_collect.specs.Steps.{ForFiles, IsBuildDrafted, IsBuildFor, IsBuildRead};
+ghost use Rattle.c2_build_collect.specs.Steps.{IsDefinitionOf, IsOfSomeKind, LeavesOther, build_of};
 
 use crate::drafting::Build;
 use c2_base::{Blob, Source};

@@ -5,7 +5,8 @@ ghost use Rattle.c2_spec.specs.Judges.Panel.{panel_says};
 ghost use Rattle.c2_rules.specs.Asking.{HearsPanel};
 ghost use Rattle.c2_build_refusals.specs.Kinds.{build_heard};
 ghost use Rattle.c2_build_base.specs.Grounds.{IsReadIn};
-ghost use Rattle.c2_build_collect.specs.Answers.{AsksEmbedded, IsPrepareCause, LeavesBuildUndue, ReadsSignedPair};
+ghost use Rattle.c2_build_collect.specs.Answers.{AsksEmbedded, IsPrepareCause, LeavesBuildUndue};
+ghost use Rattle.c2_build_collect.specs.Answers.{ReadsSignedPair};
 ghost use Rattle.c2_build_collect.specs.Steps.{IsBuildDrafted, IsFileFound, IsOfSomeKind};
 
 use crate::drafting::{Build, Drafter};

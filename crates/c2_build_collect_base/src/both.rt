@@ -10,7 +10,9 @@ ghost use Rattle.c2_build_refusals.specs.Kinds.{WithoutFault};
 ghost use Rattle.c2_spec.specs.declared.digest.Alg.{Alg as AnyAlg};
 ghost use Rattle.c2_build_base.specs.Grounds.{IsSomeGround};
 ghost use Rattle.c2_build_collect_base.specs.Grounds.{IsGroundOf};
-ghost use Rattle.c2_build_collect_base.specs.Steps.{AreTested, IsFirstRefusedOf, IsInner, IsOurs, IsReadOrNone, IsReadStore, IsTheirs, joined_tests, old_readings, readings_of};
+ghost use Rattle.c2_build_collect_base.specs.Steps.{AreTested, IsFirstRefusedOf, IsInner, IsOurs};
+ghost use Rattle.c2_build_collect_base.specs.Steps.{IsReadOrNone, IsReadStore, IsTheirs};
+ghost use Rattle.c2_build_collect_base.specs.Steps.{joined_tests, old_readings, readings_of};
 
 use crate::joining::joined_boxes;
 use crate::stores::{Ours, ReadStore};

@@ -15,8 +15,10 @@ ghost use Rattle.c2_build_refusals.specs.Kinds.{build_heard};
 ghost use Rattle.c2_build_refusals.specs.Stages.{MediaKind};
 ghost use Rattle.c2_build_base.specs.Grounds.{IsKind, IsReadIn, IsSomeGround};
 ghost use Rattle.c2_validate.specs.Validation.{FileAsks};
-ghost use Rattle.c2_build_collect_base.specs.Grounds.{IsGroundCause, IsGroundOf, IsOtherTold, IsParentRefused, PairHears, opening_of};
-ghost use Rattle.c2_build_collect_base.specs.Steps.{IsFoundThere, IsOurs, IsReadOrNone, IsReadThere};
+ghost use Rattle.c2_build_collect_base.specs.Grounds.{IsGroundCause, IsGroundOf, IsOtherTold};
+ghost use Rattle.c2_build_collect_base.specs.Grounds.{IsParentRefused, PairHears, opening_of};
+ghost use Rattle.c2_build_collect_base.specs.Steps.{IsFoundThere, IsOurs, IsReadOrNone};
+ghost use Rattle.c2_build_collect_base.specs.Steps.{IsReadThere};
 
 use crate::other::{check_other, open_other, read_other};
 use crate::stores::{Ours, store_with};

@@ -1,7 +1,9 @@
 // The ingredients of the new manifest.
 ghost use Rattle.std.specs.Prelude.{IfOk, None, Some};
 ghost use Rattle.c2_new_file_spec.specs.Store.{new_alg};
-ghost use Rattle.c2_build_collect_base.specs.Steps.{AreLastRefs, IsLastIngredient, IsReadOrNone, IsReadStore, NameLast, boxes_of, ingredient_stores, left_in};
+ghost use Rattle.c2_build_collect_base.specs.Steps.{AreLastRefs, IsLastIngredient, IsReadOrNone};
+ghost use Rattle.c2_build_collect_base.specs.Steps.{IsReadStore, NameLast, boxes_of};
+ghost use Rattle.c2_build_collect_base.specs.Steps.{ingredient_stores, left_in};
 
 use crate::stores::ReadStore;
 use crate::types::Collector;

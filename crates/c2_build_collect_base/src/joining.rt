@@ -1,10 +1,13 @@
 // The boxes that stand before the new manifest.
-ghost use Rattle.std.specs.Prelude.{◌≡◌, ◌+◌, ◌<◌, ◌≤◌, ℕ, List, [], IfErr, IfOk, Some, length, slice_get};
+ghost use Rattle.std.specs.Prelude.{◌≡◌, ◌+◌, ◌<◌, ◌≤◌, ℕ, List, [], IfErr, IfOk, Some, length};
+ghost use Rattle.std.specs.Prelude.{slice_get};
 ghost use Rattle.c2_spec.specs.Jumbf.Tree.{none};
 ghost use Rattle.c2_collect.specs.Marked.{box_labels, manifests_in};
 ghost use Rattle.c2_build_refusals.specs.Kinds.{WithoutFault};
 ghost use Rattle.c2_build_refusals.specs.declared.error.BuildError.TheVariants.{LabelClash};
-ghost use Rattle.c2_build_collect_base.specs.Steps.{AreJoined, IsClashError, IsInner, IsReadOrNone, IsReadStore, boxes_of, old_boxes, old_readings, readings_of};
+ghost use Rattle.c2_build_collect_base.specs.Steps.{AreJoined, IsClashError, IsInner, IsReadOrNone};
+ghost use Rattle.c2_build_collect_base.specs.Steps.{IsReadStore, boxes_of, old_boxes, old_readings};
+ghost use Rattle.c2_build_collect_base.specs.Steps.{readings_of};
 
 use crate::stores::{ReadStore, flags_of};
 use c2_base::{Blob, NoMemory, Text};

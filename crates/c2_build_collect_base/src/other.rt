@@ -10,7 +10,8 @@ ghost use Rattle.c2_build_base.specs.Grounds.{IsChecked};
 ghost use Rattle.c2_build_refusals.specs.Kinds.{WithoutFault, build_heard};
 ghost use Rattle.c2_validate.specs.Checked.{IsOpenedFrom, StoreAsks};
 ghost use Rattle.c2_build_collect_base.specs.Grounds.{IsGroundCause};
-ghost use Rattle.c2_build_collect_base.specs.Steps.{IsFoundThere, IsInner, IsOpeningError, IsOtherCause, IsOtherError, IsReadThere};
+ghost use Rattle.c2_build_collect_base.specs.Steps.{IsFoundThere, IsInner, IsOpeningError};
+ghost use Rattle.c2_build_collect_base.specs.Steps.{IsOtherCause, IsOtherError, IsReadThere};
 
 use c2_base::{NoMemory, Range, Source};
 use c2_build_base::OlderStore;

@@ -1,5 +1,6 @@
 // What is to be built in front of a film, by what is known before anything is digested.
-ghost use Rattle.std.specs.Prelude.{◌≡◌, ℕ, ◌+◌, ◌<◌, ◌≤◌, ◌^◌, All, [], List, None, IfErr, IfOk, OnOk, length, option_map};
+ghost use Rattle.std.specs.Prelude.{◌≡◌, ℕ, ◌+◌, ◌<◌, ◌≤◌, ◌^◌, All, [], List, None, IfErr, IfOk};
+ghost use Rattle.std.specs.Prelude.{OnOk, length, option_map};
 ghost use Rattle.std.specs.Option.{ForSome, option_to_list};
 ghost use Rattle.c2_base.specs.Source.{ReadsSource};
 ghost use Rattle.c2_bmff_rows.specs.Rows.{IsBoxWithin, rows_of};
@@ -7,12 +8,15 @@ ghost use Rattle.c2_new_file_spec.specs.Refusing.{redaction_refusal};
 ghost use Rattle.c2_definition.specs.DefinitionFile.{IsWellFormed};
 ghost use Rattle.c2_bmff_binding_front.specs.Putting.{FitsIn};
 ghost use Rattle.c2_new_front_spec.specs.InFront.{front_place, open_first};
-ghost use Rattle.c2_new_front_spec.specs.Order.{open_box, plan_refusals, redaction_refused, size_refusals};
+ghost use Rattle.c2_new_front_spec.specs.Order.{open_box, plan_refusals, redaction_refused};
+ghost use Rattle.c2_new_front_spec.specs.Order.{size_refusals};
 ghost use Rattle.c2_build_base.specs.Grounds.{IsKind, IsReadIn};
 ghost use Rattle.c2_build_refusals.specs.Kinds.{IsQuiet, WithoutFault};
 ghost use Rattle.c2_build_refusals.specs.Stages.{MediaKind};
 ghost use Rattle.c2_spec.specs.Bmff.Boxes.{Box, HasRoots};
-ghost use Rattle.c2_build_front.specs.Steps.{HasSize, IsDrafted, IsDraftedOver, IsFirstError, IsPlanStep, IsRefusedOver, IsSized, box_len, error_of_shift, store_size};
+ghost use Rattle.c2_build_front.specs.Steps.{HasSize, IsDrafted, IsDraftedOver, IsFirstError};
+ghost use Rattle.c2_build_front.specs.Steps.{IsPlanStep, IsRefusedOver, IsSized, box_len};
+ghost use Rattle.c2_build_front.specs.Steps.{error_of_shift, store_size};
 
 use crate::sizes::{check_sizes, small_store_len};
 use c2_base::{Failed, NoMemory, Source};

@@ -17,7 +17,9 @@ ghost use Rattle.c2_spec.specs.Cbor.Item.{Pairs};
 ghost use Rattle.c2_spec.specs.Jumbf.Tree.{Tree};
 ghost use Rattle.c2_spec.specs.Located.{Opening};
 ghost use Rattle.c2_build_front.specs.Answers.{IsPrepareCause};
-ghost use Rattle.c2_build_front.specs.Steps.{CanWrite, HasSize, IsDraftedOver, IsMadeSigned, IsPlanStep, IsPrepareStep, IsPrepared, IsReady, IsReadyFor, store_size};
+ghost use Rattle.c2_build_front.specs.Steps.{CanWrite, HasSize, IsDraftedOver, IsMadeSigned};
+ghost use Rattle.c2_build_front.specs.Steps.{IsPlanStep, IsPrepareStep, IsPrepared, IsReady};
+ghost use Rattle.c2_build_front.specs.Steps.{IsReadyFor, store_size};
 
 use crate::drafting::drafted;
 use crate::parts::parts_over;

@@ -6,7 +6,8 @@ ghost use Rattle.c2_spec.specs.Digest.{digest_len};
 ghost use Rattle.c2_definition.specs.DefinitionFile.{IsWellFormed};
 ghost use Rattle.c2_layout.specs.Parts.{AreParts, IsContent, parts_size};
 ghost use Rattle.c2_new_file_spec.specs.Store.{Content, new_alg};
-ghost use Rattle.c2_build_parts.specs.Bound.{AreNewParts, IsBoundDigest, IsOverBase, IsSmall, point_binding, point_store_len};
+ghost use Rattle.c2_build_parts.specs.Bound.{AreNewParts, IsBoundDigest, IsOverBase, IsSmall};
+ghost use Rattle.c2_build_parts.specs.Bound.{point_binding, point_store_len};
 ghost use Rattle.c2_build_refusals.specs.Kinds.{IsReadCause, SaysNothing};
 
 use crate::digesting::hash_all;

@@ -1,5 +1,6 @@
 // What a build asks of its judges; nothing is computed.
-ghost use Rattle.c2_build_plain.specs.Asked.{OneEmbedAsks, OnePlanAsks, SomeEmbedAsks, SomePlanAsks};
+ghost use Rattle.c2_build_plain.specs.Asked.{OneEmbedAsks, OnePlanAsks, SomeEmbedAsks};
+ghost use Rattle.c2_build_plain.specs.Asked.{SomePlanAsks};
 
 use crate::laws::each_build_comes_to_something;
 use c2_validate::each_file_has_a_check;

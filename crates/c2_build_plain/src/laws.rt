@@ -1,6 +1,7 @@
 // What holds of each build; nothing is computed.
 ghost use Rattle.c2_build_plain.specs.Meeting.{ApprovedIsValid, BuiltFileMeets};
-ghost use Rattle.c2_build_plain.specs.Meeting.{SomeBuildOverStoreSucceeds, SomeBuildSucceeds, SomeBmffSucceeds};
+ghost use Rattle.c2_build_plain.specs.Meeting.{SomeBuildOverStoreSucceeds, SomeBuildSucceeds};
+ghost use Rattle.c2_build_plain.specs.Meeting.{SomeBmffSucceeds};
 ghost use Rattle.c2_build_plain.specs.Meeting.{OneEmbedding, OnePlan, SomeEmbedding, SomePlan};
 ghost use Rattle.c2_build_plain.specs.Meeting.{UnrefusedIsEmbedded, UnrefusedIsPlanned};
 

@@ -17,7 +17,9 @@ ghost use Rattle.c2_build_refusals.specs.Stages.{LeavesUndue, MediaKind};
 ghost use Rattle.c2_build_plain.specs.Building.{IsEmbeddedOver};
 ghost use Rattle.c2_build_in_place.specs.Numbers.{IsOfFile};
 ghost use Rattle.c2_build_drafts.specs.Drafts.{FitsMedia};
-ghost use Rattle.c2_build_plain.specs.Steps.{AsksWith, IsBuildDrafted, IsDraftFor, IsEmbeddedSigned, IsPrepareCause, IsPrepared, IsReadyCause, build_of};
+ghost use Rattle.c2_build_plain.specs.Steps.{AsksWith, IsBuildDrafted, IsDraftFor};
+ghost use Rattle.c2_build_plain.specs.Steps.{IsEmbeddedSigned, IsPrepareCause, IsPrepared};
+ghost use Rattle.c2_build_plain.specs.Steps.{IsReadyCause, build_of};
 ghost use Rattle.c2_build_base.specs.Grounds.{IsFoundIn, IsKind, IsReadIn, KindHears};
 
 use crate::draft::draft_over;

@@ -8,7 +8,8 @@ ghost use Rattle.c2_copying.specs.declared.copying.CopyError.TheVariants as copy
 ghost use Rattle.c2_spec.specs.Bmff.Boxes.{box_bytes};
 ghost use Rattle.c2_spec.specs.Bmff.Writing.{c2pa_box};
 ghost use Rattle.c2_spec.specs.Jpeg.Writing.{IsPacketStore, packets_bytes};
-ghost use Rattle.c2_build_writing.specs.Puts.{CanPut, WritesOver, copy_fault_of, put_file, put_file_len, put_of};
+ghost use Rattle.c2_build_writing.specs.Puts.{CanPut, WritesOver, copy_fault_of, put_file};
+ghost use Rattle.c2_build_writing.specs.Puts.{put_file_len, put_of};
 
 use c2_base::{Failed, Sink, Source};
 use c2_bmff_boxes::write_box;

@@ -10,7 +10,8 @@ ghost use Rattle.c2_spec.specs.Cbor.Spelling.{Spells};
 ghost use Rattle.c2_spec.specs.Cbor.View.{view};
 ghost use Rattle.c2_spec.specs.declared.cbor.CborError.{CborError as AnyError};
 ghost use Rattle.c2_spec.specs.declared.cbor.CborError.TheVariants.{NoMemory, Trailing};
-ghost use Rattle.c2_cbor.specs.Apart.{GivesSome, OnlyIf, whole_value, pairs_with, texts_list, wants, with_texts};
+ghost use Rattle.c2_cbor.specs.Apart.{GivesSome, OnlyIf, whole_value, pairs_with, texts_list};
+ghost use Rattle.c2_cbor.specs.Apart.{wants, with_texts};
 ghost use Rattle.c2_cbor_spec.specs.Reading.{Gives, is_known, item_at, items, pairs, pairs_seen};
 
 use crate::decoding::{end_before, read_error};

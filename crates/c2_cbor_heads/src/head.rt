@@ -1,7 +1,8 @@
 //! The head of an item.
 
 ghost use Rattle.std.specs.Int.{w16, w32, w64};
-ghost use Rattle.c2_cbor_spec.specs.Reading.{Gives, number_at, byte_at, argument_at, count_at, major_7, head_of, head_at};
+ghost use Rattle.c2_cbor_spec.specs.Reading.{Gives, number_at, byte_at, argument_at, count_at};
+ghost use Rattle.c2_cbor_spec.specs.Reading.{major_7, head_of, head_at};
 
 use c2_cbor_spec::{Count, Fault, Head, ReadError};
 

@@ -1,7 +1,8 @@
 //! Keys of a map as bytes that stand one after the other, and their order.
 
 ghost use Rattle.std.specs.Prelude.{◌≡◌, ◌≤◌, IfOk, List, ℕ, drop, slice_index};
-ghost use Rattle.c2_cbor_spec.specs.Marks.{Bytes, AgreeBelow, SharesFront, StandIn, IsKeyOrder, front_of, marks, numbered};
+ghost use Rattle.c2_cbor_spec.specs.Marks.{Bytes, AgreeBelow, SharesFront, StandIn, IsKeyOrder};
+ghost use Rattle.c2_cbor_spec.specs.Marks.{front_of, marks, numbered};
 
 use std::alloc::{AllocError, Global};
 

@@ -2,7 +2,8 @@
 
 ghost use Rattle.std.specs.Prelude.{◌≡◌, ◌<◌, ◌∷◌, ◌++◌, OnOk, length};
 ghost use Rattle.c2_spec.specs.Cbor.View.{view, items_view, pairs_view};
-ghost use Rattle.c2_spec.specs.Cbor.Deterministic.{shortest_head, simple_bytes, preferred, preferred_items, preferred_pairs};
+ghost use Rattle.c2_spec.specs.Cbor.Deterministic.{shortest_head, simple_bytes, preferred};
+ghost use Rattle.c2_spec.specs.Cbor.Deterministic.{preferred_items, preferred_pairs};
 
 use c2_spec::Cbor;
 use std::alloc::AllocError;

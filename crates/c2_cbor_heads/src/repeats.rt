@@ -4,7 +4,8 @@ ghost use Rattle.std.specs.Prelude.{◌≡◌, ◌↔◌, Some, None, true, IfOk
 ghost use Rattle.std.specs.Ordering.{nat_cmp, is_gt};
 ghost use Rattle.std.specs.Cmp.Lexicographic.{slice_cmp};
 ghost use Rattle.c2_cbor_spec.specs.Tracking.{first_equal as first_of, spelled};
-ghost use Rattle.c2_cbor_spec.specs.Marks.{StandIn, marks, mark_of, Repeats, LeastRepeated, lesser_of};
+ghost use Rattle.c2_cbor_spec.specs.Marks.{StandIn, marks, mark_of, Repeats, LeastRepeated};
+ghost use Rattle.c2_cbor_spec.specs.Marks.{lesser_of};
 
 use crate::key_order::sorted_keys;
 use crate::preferred::push_preferred;

@@ -4,7 +4,8 @@ ghost use Rattle.std.specs.Prelude.{◌≡◌, ◌↔◌, ◌⊎◌, ◌++◌, �
 ghost use Rattle.c2_spec.specs.Cbor.Item.{Item, Pairs, no_pairs};
 ghost use Rattle.c2_spec.specs.Cbor.Legal.{IsLegal};
 ghost use Rattle.c2_spec.specs.Cbor.Spelling.{Spells};
-ghost use Rattle.c2_spec.specs.Cbor.Deterministic.{sorted, sorted_pairs, deterministic, preferred, each_sorted, pairs_with, KeysRise};
+ghost use Rattle.c2_spec.specs.Cbor.Deterministic.{sorted, sorted_pairs, deterministic, preferred};
+ghost use Rattle.c2_spec.specs.Cbor.Deterministic.{each_sorted, pairs_with, KeysRise};
 ghost use Rattle.c2_spec.specs.Cbor.Faults.{HasFault};
 ghost use Rattle.c2_spec.specs.Cbor.Fields.{HasItem, IsUnread};
 ghost use Rattle.c2_spec.specs.declared.cbor.CborError.{CborError};

@@ -1,12 +1,14 @@
 //! The deterministic bytes of an item.
 
-ghost use Rattle.std.specs.Prelude.{◌↔◌, ◌≡◌, ◌<◌, ◌++◌, [], true, None, map, slice_index_or, IfOk, OnOk, length};
+ghost use Rattle.std.specs.Prelude.{◌↔◌, ◌≡◌, ◌<◌, ◌++◌, [], true, None, map, slice_index_or, IfOk};
+ghost use Rattle.std.specs.Prelude.{OnOk, length};
 ghost use Rattle.c2_spec.specs.Cbor.View.{view, items_view, pairs_view};
 ghost use Rattle.c2_spec.specs.Cbor.Deterministic.{preferred_items, preferred_pairs};
 ghost use Rattle.c2_spec.specs.Cbor.Item.{no_pairs};
 ghost use Rattle.c2_spec.specs.Cbor.Deterministic.{deterministic, sorted_items, sorted_pairs};
 ghost use Rattle.c2_spec.specs.Cbor.Plain.{HasPlainKeys, ItemsHavePlainKeys, PairsHavePlainKeys};
-ghost use Rattle.c2_cbor_write.specs.Entries.{entry_bytes, entry_of, det_keys, det_values, value_at, AreKeysOf, KeysPlain, ValuesPlain};
+ghost use Rattle.c2_cbor_write.specs.Entries.{entry_bytes, entry_of, det_keys, det_values};
+ghost use Rattle.c2_cbor_write.specs.Entries.{value_at, AreKeysOf, KeysPlain, ValuesPlain};
 ghost use Rattle.c2_cbor_spec.specs.Marks.{StandIn, marks, mark_at, LeastRepeated};
 
 use c2_cbor_heads::{least_repeated, push_head, push_preferred, sorted_keys};

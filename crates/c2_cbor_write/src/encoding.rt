@@ -1,6 +1,7 @@
 //! Writing an item.
 
-ghost use Rattle.std.specs.Prelude.{◌≡◌, ◌++◌, ◌⊎◌, ℕ, List, true, false, length, IfOk, IfErr, IsTrue};
+ghost use Rattle.std.specs.Prelude.{◌≡◌, ◌++◌, ◌⊎◌, ℕ, List, true, false, length, IfOk, IfErr};
+ghost use Rattle.std.specs.Prelude.{IsTrue};
 ghost use Rattle.c2_spec.specs.Cbor.View.{view};
 ghost use Rattle.c2_spec.specs.Cbor.Legal.{IsLegal, HasDistinctKeys};
 ghost use Rattle.c2_spec.specs.Cbor.Deterministic.{sorted, deterministic};
@@ -8,7 +9,8 @@ ghost use Rattle.c2_spec.specs.Cbor.Plain.{IsPlain, HasPlainKeys};
 ghost use Rattle.c2_spec.specs.Cbor.Unwritable.{IsUnwritable, HasEqualKeys};
 ghost use Rattle.c2_spec.specs.Cbor.Answers.{BeginsWith, Succeeds, Refuses};
 ghost use Rattle.c2_spec.specs.declared.cbor.EncodeError.{EncodeError as AnyError};
-ghost use Rattle.c2_spec.specs.declared.cbor.EncodeError.TheVariants.{DuplicateKey, TooDeep, NoMemory as OutOfMemory};
+ghost use Rattle.c2_spec.specs.declared.cbor.EncodeError.TheVariants.{DuplicateKey, TooDeep};
+ghost use Rattle.c2_spec.specs.declared.cbor.EncodeError.TheVariants.{NoMemory as OutOfMemory};
 ghost use Rattle.c2_cbor_spec.specs.Fine.{Fine};
 
 use crate::checks::{is_deeper, is_fine};

@@ -2,9 +2,11 @@
 
 ghost use Rattle.std.specs.Prelude.{◌≡◌, IsTrue, false, IfOk};
 ghost use Rattle.c2_spec.specs.Cbor.View.{view, items_view, pairs_view};
-ghost use Rattle.c2_spec.specs.Cbor.Legal.{HasDistinctKeys, ItemsHaveDistinctKeys, PairsHaveDistinctKeys};
+ghost use Rattle.c2_spec.specs.Cbor.Legal.{HasDistinctKeys, ItemsHaveDistinctKeys};
+ghost use Rattle.c2_spec.specs.Cbor.Legal.{PairsHaveDistinctKeys};
 ghost use Rattle.c2_cbor_spec.specs.Fine.{Fine, FineItems, FinePairs};
-ghost use Rattle.c2_spec.specs.Cbor.Unwritable.{HasEqualKeys, ItemsHaveEqualKeys, PairsHaveEqualKeys};
+ghost use Rattle.c2_spec.specs.Cbor.Unwritable.{HasEqualKeys, ItemsHaveEqualKeys};
+ghost use Rattle.c2_spec.specs.Cbor.Unwritable.{PairsHaveEqualKeys};
 
 use c2_base::NoMemory;
 use c2_cbor_heads::first_equal;

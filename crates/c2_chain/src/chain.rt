@@ -1,5 +1,6 @@
 // The manifests of a store, and the public calls on them.
-ghost use Rattle.std.specs.Prelude.{◌≡◌, ◌≢◌, ◌<◌, ◌↔◌, IsTrue, None, Some, length, map, slice_get, option_map, IfOk, IfSome};
+ghost use Rattle.std.specs.Prelude.{◌≡◌, ◌≢◌, ◌<◌, ◌↔◌, IsTrue, None, Some, length, map, slice_get};
+ghost use Rattle.std.specs.Prelude.{option_map, IfOk, IfSome};
 ghost use Rattle.c2_base.specs.declared.values.Question.{Question as AnyQuestion};
 ghost use Rattle.c2_spec.specs.C2pa.Manifest.{IsStoreOf, HasClaim, manifests_of, store_of};
 ghost use Rattle.c2_spec.specs.Judges.Panel.{panel_says};

@@ -1,5 +1,6 @@
 // A manifest under check, whose boxes and entries are found by their labels.
-ghost use Rattle.std.specs.Prelude.{◌≡◌, ◌<◌, ◌++◌, IfOk, OnOk, Some, length, map, option_copied, option_map, slice_get, take};
+ghost use Rattle.std.specs.Prelude.{◌≡◌, ◌<◌, ◌++◌, IfOk, OnOk, Some, length, map, option_copied};
+ghost use Rattle.std.specs.Prelude.{option_map, slice_get, take};
 ghost use Rattle.c2_label_index.specs.Places.{ArePlaces};
 ghost use Rattle.c2_rules.specs.Chains.{entry_label as label_of};
 ghost use Rattle.c2_rules.specs.Readings.{entries_in};

@@ -2,7 +2,8 @@
 // whether it is touched, and the digests of its contents and of the contents of its signature box, by the algorithms that the
 // ingredients name.
 ghost use Rattle.std.specs.Prelude.{◌≡◌, ◌<◌, IfOk, IfSome, length, option_and_then, slice_get};
-ghost use Rattle.c2_check_facts.specs.Facts.{AreDigestsOf, AreFacts, AreSignatureDigestsOf, IsFactAt, IsFactOf};
+ghost use Rattle.c2_check_facts.specs.Facts.{AreDigestsOf, AreFacts, AreSignatureDigestsOf};
+ghost use Rattle.c2_check_facts.specs.Facts.{IsFactAt, IsFactOf};
 
 use crate::digests::alg_name;
 use crate::kept_digests::{AlgSet, Digests, digests_by};

@@ -1,5 +1,7 @@
 // The rules on bindings to the file and on parents.
-ghost use Rattle.std.specs.Prelude.{◌≡◌, ◌<◌, ◌++◌, ◌&&◌, ℕ, List, Some, None, IfOk, OnOk, map, filter, filter_map, length, option_map, option_to_list, slice_get, if◌then◌else◌};
+ghost use Rattle.std.specs.Prelude.{◌≡◌, ◌<◌, ◌++◌, ◌&&◌, ℕ, List, Some, None, IfOk, OnOk, map};
+ghost use Rattle.std.specs.Prelude.{filter, filter_map, length, option_map, option_to_list};
+ghost use Rattle.std.specs.Prelude.{slice_get, if◌then◌else◌};
 ghost use Rattle.std.specs.List.{list_any};
 ghost use Rattle.c2_rules.specs.Chains as chains;
 ghost use Rattle.c2_rules.specs.Readings.{ReadBox};
@@ -7,7 +9,8 @@ ghost use Rattle.c2_rules.specs.Ingredients as ingredients;
 ghost use Rattle.c2_rules.specs.Rules as rules;
 ghost use Rattle.c2_read_manifests.specs.Placed.{seen_in};
 ghost use Rattle.c2_rules.specs.Tests.{over_all, first_failing};
-ghost use Rattle.c2_check_ingredients.specs.Counts.{count_tests, parent_tests, number_tests, bound_tests, update_tests};
+ghost use Rattle.c2_check_ingredients.specs.Counts.{count_tests, parent_tests, number_tests};
+ghost use Rattle.c2_check_ingredients.specs.Counts.{bound_tests, update_tests};
 
 use c2_assertion::{Kind, Relationship, kind};
 use c2_base::NoMemory;

@@ -10,7 +10,7 @@ use Rattle.c2_usage.specs.declared.types.Command.{Command}
 use Rattle.c2_usage.specs.declared.types.Role.{Role}
 use Rattle.c2_usage.specs.declared.types.Roles.{Roles}
 use Rattle.c2_cmd_outcome.specs.Reply.{EndsFile, FileEnd, end_of}
-use Rattle.c2_cmd.specs.Left.{FileEnds, KeepsOut, KeepsPanel, KeepsReport, KeepsSource, LeavesOut, LeavesReport, LeavesSource}
+use Rattle.c2_cmd.specs.Left.{FileEnds, KeepsOut, KeepsJudges, KeepsReport, KeepsSource, LeavesOut, LeavesReport, LeavesSource}
 use Rattle.c2_cmd.specs.Outcome.{names}
 use Rattle.c2_cmd.specs.Run.{Call, HasNotDue, IsUnused, LeavesUnused, Untouched}
 use Rattle.c2_cmd.specs.Sources.{SourceName, is_source, of_source, the_fourth, the_media, the_second, the_third}
@@ -275,9 +275,9 @@ idle_panel js r = record {
 
 -- what is left of them by the status that the result leads to
 pub kept_panel : {old new : Judges} {r : Result Reply Fault} {s : Status} → end_of r ≡ s → LeavesJudges old new r
-    → KeepsPanel old new s
+    → KeepsJudges old new s
 kept_panel {old} {new} {r} ends leaves =
-    subst (λ (x : Status). KeepsPanel old new x) ends
+    subst (λ (x : Status). KeepsJudges old new x) ends
     (record {
       same = leaves.same;
       asked_later = leaves.asked_later;

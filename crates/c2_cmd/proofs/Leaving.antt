@@ -4,7 +4,7 @@ use Rattle.std.specs.Prelude.{Result}
 use Rattle.c2_base.specs.Source.{ReadsSource}
 use Rattle.c2_build_endings.specs.Sources.{SourceUse, use_of}
 use Rattle.c2_spec.specs.Judges.Panel.{Judges, LeavesJudges}
-use Rattle.c2_cmd.specs.Left.{KeepsPanel, KeepsSources, LeavesSource, LeavesSources}
+use Rattle.c2_cmd.specs.Left.{KeepsJudges, KeepsSources, LeavesSource, LeavesSources}
 use Rattle.c2_cmd.proofs.Keeping.{idle_source, kept_source}
 use Rattle.c2_cmd_outcome.specs.Reply.{end_of}
 use Rattle.c2_cmd_outcome.specs.declared.reply.Fault.{Fault}
@@ -119,7 +119,7 @@ untold_sources leaves = record {
 
 -- what is left of the judges then
 pub untold_panel : {old new : Judges} {r : Result Reply Fault} → LeavesJudges old new r
-    → KeepsPanel old new OutputFault
+    → KeepsJudges old new OutputFault
 untold_panel leaves = record {
   same = leaves.same;
   asked_later = leaves.asked_later;

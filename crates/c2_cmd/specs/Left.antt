@@ -6,7 +6,9 @@ use Rattle.std.specs.declared.result.Result.{Result}
 use Rattle.c2_base.specs.Sink.{Grows}
 use Rattle.c2_base.specs.Source.{StaysSource}
 use Rattle.c2_build_endings.specs.Sources.{SourceUse}
-use Rattle.c2_spec.specs.Judges.Panel.{NoneFell, Judges}
+use Rattle.c2_base.specs.declared.values.Question.{Question}
+use Rattle.c2_spec.specs.declared.panel.Verdict.{Verdict}
+use Rattle.c2_spec.specs.Judges.Panel.{NoneFell, Judges, judges_of}
 use Rattle.c2_cmd_outcome.specs.Reply.{FileEnd}
 use Rattle.c2_cmd_outcome.specs.Status.{HasNoReply, WithFault, IfAnswered}
 use Rattle.c2_cmd_outcome.specs.declared.reply.Fault.{Fault}
@@ -67,11 +69,16 @@ pub record KeepsReport {W : Type 0} (written : W → Option (List ℕ)) (finishe
   pub behind : (new ≡ old) ⊎ FileReady
 
 -- What is left of the judges: each says what it said, no count has fallen, and after an answer those of faults are as they were.
-pub record KeepsPanel (old new : Judges) (status : Status) : Type 0 where
+pub record KeepsJudges (old new : Judges) (status : Status) : Type 0 where
   pub same : new.said ≡ old.said
   pub asked_later : NoneFell old.asked new.asked
   pub faults_later : NoneFell old.faults new.faults
   pub quiet : IfAnswered (new.faults ≡ old.faults) status
+
+-- what is left of the judges, by the meanings of the trait
+abbrev pub KeepsPanel : {J : Type 0} (says : J → Question → Verdict) (times faults : J → ℕ) (old new : List J) → Status → Type 0
+KeepsPanel says times faults old new status =
+    KeepsJudges (judges_of says times faults old) (judges_of says times faults new) status
 
 -- ---- for private clauses: before the reply is written
 

@@ -7,7 +7,7 @@ use Rattle.c2_base.specs.Causes.{Rose}
 use Rattle.c2_base.specs.declared.values.Question.{Question}
 use Rattle.c2_spec.specs.declared.digest.Alg.{Alg}
 use Rattle.c2_spec.specs.declared.panel.Verdict.{Verdict}
-use Rattle.c2_spec.specs.Judges.Panel.{SomeRose, Judges, panel_says}
+use Rattle.c2_spec.specs.Judges.Panel.{SomeRose, Judges, judges_of, panel_says}
 use Rattle.c2_rules.specs.Asking.{HaveAsked, HaveAskedPrefix, HaveFailed, HasHeard}
 use Rattle.c2_cmd_collect.specs.Answers as collect
 use Rattle.c2_compare.specs.Comparing.{IsNotAccepted}
@@ -171,6 +171,24 @@ pub record RunState : Type 0 where
   pub report : SinkState
   pub file : SinkState
   pub judges : Judges
+
+-- a run's sinks and judges, before it and after it
+pub record RunStates : Type 0 where
+  pub report : SinkState × SinkState
+  pub file : SinkState × SinkState
+  pub judges : Judges × Judges
+
+-- the judges before a call and after it, by the meanings of the trait
+abbrev pub panel_states : {J : Type 0} → (J → Question → Verdict) → (J → ℕ) → (J → ℕ) → List J → List J → Judges × Judges
+panel_states says times faults old new = (judges_of says times faults old, judges_of says times faults new)
+
+-- before the run
+abbrev pub before : RunStates → RunState
+before s = record { report = s.report.0; file = s.file.0; judges = s.judges.0 }
+
+-- after it
+abbrev pub after : RunStates → RunState
+after s = record { report = s.report.1; file = s.file.1; judges = s.judges.1 }
 
 -- The report after a run with this outcome and this status: the status is that of the outcome's answer, and the report took all of
 -- its text and is finished; or after a fault or out of memory it took a prefix of that text, and this call hasn't finished it.

@@ -1,5 +1,6 @@
 //! Laws of the outcomes of runs.
-ghost use Rattle.c2_cmd.specs.Laws.{AnswersWhereNothingFails, OneListOfQuestions, OneOutcome, SomeListOfQuestions, SomeOutcome};
+ghost use Rattle.c2_cmd.specs.Laws.{AnswersWhereNothingFails, OneListOfQuestions, OneOutcome};
+ghost use Rattle.c2_cmd.specs.Laws.{SomeListOfQuestions, SomeOutcome};
 
 use c2_cmd_building::each_building_outcome;
 use c2_cmd_collect::each_collect_outcome;

@@ -3,14 +3,17 @@ ghost use Rattle.std.specs.Prelude.{◌≡◌, ◌⊎◌, true, map, string_byte
 ghost use Rattle.c2_base.specs.Causes.{HasCause, Rose};
 ghost use Rattle.c2_base.specs.Sink.{HasWrittenPrefix};
 ghost use Rattle.c2_build_endings.specs.Sources.{use_of};
-ghost use Rattle.c2_spec.specs.Judges.Panel.{LeavesJudges, judges_of};
+ghost use Rattle.c2_spec.specs.Judges.Panel.{LeavesPanel};
 ghost use Rattle.c2_usage.specs.CommandLine.{is_out};
 ghost use Rattle.c2_cmd_outcome.specs.Left.{Delivers, state_of};
 ghost use Rattle.c2_cmd_outcome.specs.Outcome.{Outcome};
 ghost use Rattle.c2_cmd_outcome.specs.Reply.{end_of};
-ghost use Rattle.c2_cmd.specs.Left.{KeepsOut, KeepsPanel, KeepsReport, KeepsSources, LeavesEach, LeavesOut, LeavesReport, LeavesSources};
+ghost use Rattle.c2_cmd.specs.Left.{KeepsOut, KeepsPanel, KeepsReport, KeepsSources, LeavesEach};
+ghost use Rattle.c2_cmd.specs.Left.{LeavesOut, LeavesReport, LeavesSources};
 ghost use Rattle.c2_cmd.specs.Outcome.{digest_alg, has_whole_report, names};
-ghost use Rattle.c2_cmd.specs.Run.{ComesTo, Faults, IsCaused, IsKnown, LeavesUnused, RepliesTo, RunState, RunsTo, Untouched, call_of, roles_in};
+ghost use Rattle.c2_cmd.specs.Run.{ComesTo, Faults, IsCaused, IsKnown, LeavesUnused, RepliesTo};
+ghost use Rattle.c2_cmd.specs.Run.{RunStates, RunsTo, Untouched, after, before, call_of};
+ghost use Rattle.c2_cmd.specs.Run.{panel_states, roles_in};
 
 use crate::laws::each_run_has_an_outcome;
 use c2_base::{Failed, Sink, Source, write_all};
@@ -82,17 +85,13 @@ pub fn run<H: Hashing, A: Source, B: Source, C: Source, D: Source, K: Sink, W: S
       third = C.known third.old;
       fourth = D.known fourth.old;
     }) (map says judges.old.items) H.digest_of in
-        let old : RunState = record {
-          report = state_of W.written W.finished report.old;
-          file = state_of K.written K.finished out.old;
-          judges = judges_of says asked_times judge_faults judges.old.items;
-        } in let new : RunState = record {
-          report = state_of W.written W.finished report.new;
-          file = state_of K.written K.finished out.new;
-          judges = judges_of says asked_times judge_faults judges.new.items;
+        let states : RunStates = record {
+          report = (state_of W.written W.finished report.old, state_of W.written W.finished report.new);
+          file = (state_of K.written K.finished out.old, state_of K.written K.finished out.new);
+          judges = panel_states says asked_times judge_faults judges.old.items judges.new.items;
         } in
         IsKnown call → (expected : Outcome) × ComesTo call expected
-        × RunsTo call expected old new (judges.new ≡ judges.old) result }
+        × RunsTo call expected (before states) (after states) (judges.new ≡ judges.old) result }
 
     // Whatever the objects hold: when the words are refused, and whose fault is answered.
     ensures cause { let faults : Faults = record {
@@ -138,9 +137,8 @@ pub fn run<H: Hashing, A: Source, B: Source, C: Source, D: Source, K: Sink, W: S
     ensures report { let whole = has_whole_report (roles_in words.now.items) in
         let ready = (out.new ≡ out.old) ⊎ (K.finished out.new ≡ true) in
         KeepsReport W.written W.finished W.faults whole ready report.old report.new result }
-    ensures judges { let old = judges_of says asked_times judge_faults judges.old.items in
-        let new = judges_of says asked_times judge_faults judges.new.items in
-        KeepsPanel old new result }
+    ensures judges { KeepsPanel says asked_times judge_faults judges.old.items judges.new.items
+        result }
 {
     each_run_has_an_outcome();
     let reply = match reply_to(
@@ -176,16 +174,13 @@ fn reply_to<H: Hashing, A: Source, B: Source, C: Source, D: Source, K: Sink, W: 
       third = C.known third.old;
       fourth = D.known fourth.old;
     }) (map says judges.old.items) H.digest_of in
-        let old : RunState = record {
-          report = state_of W.written W.finished report.old;
-          file = state_of K.written K.finished out.old;
-          judges = judges_of says asked_times judge_faults judges.old.items;
-        } in let new : RunState = record {
-          report = state_of W.written W.finished report.new;
-          file = state_of K.written K.finished out.new;
-          judges = judges_of says asked_times judge_faults judges.new.items;
+        let states : RunStates = record {
+          report = (state_of W.written W.finished report.old, state_of W.written W.finished report.new);
+          file = (state_of K.written K.finished out.old, state_of K.written K.finished out.new);
+          judges = panel_states says asked_times judge_faults judges.old.items judges.new.items;
         } in
-        IsKnown call → RepliesTo call old new (judges.new ≡ judges.old) result }
+        IsKnown call → RepliesTo call (before states) (after states)
+        (judges.new ≡ judges.old) result }
 
     // Whatever the objects hold: why it ends so, what it doesn't use, and what it leaves of each object.
     ensures cause { let faults : Faults = record {
@@ -219,15 +214,13 @@ fn reply_to<H: Hashing, A: Source, B: Source, C: Source, D: Source, K: Sink, W: 
         LeavesUnused call untouched }
     ensures leaves { let named = names is_out (roles_in words.now.items) in
         let whole = has_whole_report (roles_in words.now.items) in
-        let old = judges_of says asked_times judge_faults judges.old.items in
-        let new = judges_of says asked_times judge_faults judges.new.items in
         LeavesEach (LeavesSources (use_of A.len A.known A.faults media.old media.new)
         (use_of B.len B.known B.faults second.old second.new)
         (use_of C.len C.known C.faults third.old third.new)
         (use_of D.len D.known D.faults fourth.old fourth.new) result)
         (LeavesOut K.written K.finished K.faults named out.old out.new result)
         (LeavesReport W.written W.finished W.faults whole report.old report.new result)
-        (LeavesJudges old new result) }
+        (LeavesPanel says asked_times judge_faults judges.old.items judges.new.items result) }
 {
     let found = match roles(alloc, words) {
         Ok(found) => found,

@@ -1,5 +1,6 @@
 //! Laws of the outcomes of commands that build.
-ghost use Rattle.c2_cmd_building.specs.Laws.{EachBuildingOutcome, EachBuildingQuestions, OneBuildingOutcome, OneBuildingQuestions};
+ghost use Rattle.c2_cmd_building.specs.Laws.{EachBuildingOutcome, EachBuildingQuestions};
+ghost use Rattle.c2_cmd_building.specs.Laws.{OneBuildingOutcome, OneBuildingQuestions};
 
 use c2_build_plain::{each_build_asks_a_list, each_build_comes_to_something};
 use c2_sample::each_sample_comes_to_something;

@@ -1,7 +1,8 @@
 // The command `embed-collect`.
 ghost use Rattle.std.specs.Prelude.{map};
 ghost use Rattle.c2_build_endings.specs.Sources.{use_of};
-ghost use Rattle.c2_build_collect.specs.Answers.{AsksEmbedded, ForEmbedInputs, LeavesBuildUndue, ReadsSignedPair, embed_effects};
+ghost use Rattle.c2_build_collect.specs.Answers.{AsksEmbedded, ForEmbedInputs, LeavesBuildUndue};
+ghost use Rattle.c2_build_collect.specs.Answers.{ReadsSignedPair, embed_effects};
 ghost use Rattle.c2_rules.specs.Asking.{HearsPanel};
 ghost use Rattle.c2_spec.specs.Judges.Panel.{panel_says};
 ghost use Rattle.c2_cmd_outcome.specs.Left.{state_of};

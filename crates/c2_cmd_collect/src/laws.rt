@@ -1,5 +1,6 @@
 // Laws of the outcomes and the questions of `plan-collect` and `embed-collect`; nothing is computed.
-ghost use Rattle.c2_cmd_collect.specs.Laws.{EachCollectOutcome, EachCollectQuestions, OneCollectOutcome, OneCollectQuestions};
+ghost use Rattle.c2_cmd_collect.specs.Laws.{EachCollectOutcome, EachCollectQuestions};
+ghost use Rattle.c2_cmd_collect.specs.Laws.{OneCollectOutcome, OneCollectQuestions};
 
 use c2_validate::each_file_has_a_check;
 

@@ -1,7 +1,8 @@
 // The command `plan-collect`.
 ghost use Rattle.std.specs.Prelude.{map, IfOk};
 ghost use Rattle.c2_build_endings.specs.Sources.{use_of};
-ghost use Rattle.c2_build_collect.specs.Answers.{AsksPlanned, ForPlanInputs, LeavesPlanUndue, ReadsPlannedPair};
+ghost use Rattle.c2_build_collect.specs.Answers.{AsksPlanned, ForPlanInputs, LeavesPlanUndue};
+ghost use Rattle.c2_build_collect.specs.Answers.{ReadsPlannedPair};
 ghost use Rattle.c2_build_collect.specs.Grounds.{ground_effects};
 ghost use Rattle.c2_rules.specs.Asking.{HearsPanel};
 ghost use Rattle.c2_spec.specs.Judges.Panel.{panel_says};

@@ -4,7 +4,8 @@ ghost use Rattle.std.specs.Option.{ForSome};
 ghost use Rattle.c2_base.specs.Sink.{WritesSink, unsaid};
 ghost use Rattle.c2_base.specs.Source.{ReadsSource};
 ghost use Rattle.c2_cmd_outcome.specs.Left.{state_of};
-ghost use Rattle.c2_cmd_outcome.specs.Reply.{EndsFile, IsCopyingCause, IsFaultOf, IsOutputCause, IsReplyTo, MakesFile, outcome_of};
+ghost use Rattle.c2_cmd_outcome.specs.Reply.{EndsFile, IsCopyingCause, IsFaultOf, IsOutputCause};
+ghost use Rattle.c2_cmd_outcome.specs.Reply.{IsReplyTo, MakesFile, outcome_of};
 ghost use Rattle.c2_cmd_extract.specs.Faults.{extract_says};
 ghost use Rattle.c2_cmd_extract.specs.Outcomes.{IsExtractOutcome, IsExtractReply, extract_report};
 

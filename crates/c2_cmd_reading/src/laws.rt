@@ -1,5 +1,6 @@
 // Laws of the outcomes of commands that read.
-ghost use Rattle.c2_cmd_reading.specs.Laws.{EachReadingOutcome, EachReadingQuestions, OneReadingOutcome, OneReadingQuestions};
+ghost use Rattle.c2_cmd_reading.specs.Laws.{EachReadingOutcome, EachReadingQuestions};
+ghost use Rattle.c2_cmd_reading.specs.Laws.{OneReadingOutcome, OneReadingQuestions};
 
 use c2_validate::{each_file_has_a_check, each_file_has_an_external_check};
 

@@ -5,7 +5,8 @@ ghost use Rattle.c2_base.specs.Source.{ReadsSource};
 ghost use Rattle.c2_spec.specs.C2pa.Manifest.{IsStoreOf};
 ghost use Rattle.c2_rules.specs.CheckList as form;
 ghost use Rattle.c2_cmd_outcome.specs.Reply.{IsMediaCause};
-ghost use Rattle.c2_cmd_reading.specs.Reading.{HasNoUsage, IsChainOf, PreparesFound, PreparesMedia, PreparesTree};
+ghost use Rattle.c2_cmd_reading.specs.Reading.{HasNoUsage, IsChainOf, PreparesFound, PreparesMedia};
+ghost use Rattle.c2_cmd_reading.specs.Reading.{PreparesTree};
 
 use crate::open::{Stored, open};
 use c2_base::{Found, NoMemory, Question, Source, Text};

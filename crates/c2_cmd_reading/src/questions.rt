@@ -1,12 +1,14 @@
 // The command `questions`.
-ghost use Rattle.std.specs.Prelude.{◌≡◌, ◌≢◌, ◌++◌, [], ◌∷◌, ⊤, Some, map, IfOk, IfErr, OnOk, string_bytes};
+ghost use Rattle.std.specs.Prelude.{◌≡◌, ◌≢◌, ◌++◌, [], ◌∷◌, ⊤, Some, map, IfOk, IfErr, OnOk};
+ghost use Rattle.std.specs.Prelude.{string_bytes};
 ghost use Rattle.std.specs.Option.{option_to_list};
 ghost use Rattle.c2_base.specs.Source.{ReadsSource};
 ghost use Rattle.c2_spec.specs.Judges.Panel.{panel_says};
 ghost use Rattle.c2_rules.specs.Asking.{HearsPanel};
 ghost use Rattle.c2_rules.specs.Validated.{AreQuestions};
 ghost use Rattle.c2_calls_spec.specs.Asks.{AsksKnown, AsksThese};
-ghost use Rattle.c2_cmd_outcome.specs.Reply.{CausedBy, IsPanelCause, Replies, fault_heard, outcome_of};
+ghost use Rattle.c2_cmd_outcome.specs.Reply.{CausedBy, IsPanelCause, Replies, fault_heard};
+ghost use Rattle.c2_cmd_outcome.specs.Reply.{outcome_of};
 ghost use Rattle.c2_cmd_reading.specs.Outcomes.{IsMediaOutcome, IsQuestioned, verdict_line};
 ghost use Rattle.c2_cmd_reading.specs.Reading.{asked_outcome, questions_in};
 

@@ -4,9 +4,11 @@ ghost use Rattle.std.specs.Option.{ForSome};
 ghost use Rattle.c2_base.specs.Sink.{WritesSink, unsaid};
 ghost use Rattle.c2_base.specs.Source.{ReadsSource};
 ghost use Rattle.c2_cmd_outcome.specs.Left.{state_of};
-ghost use Rattle.c2_cmd_outcome.specs.Reply.{EndsFile, IsCopyingCause, IsFaultOf, IsOutputCause, IsReplyTo, MakesFile, outcome_of};
+ghost use Rattle.c2_cmd_outcome.specs.Reply.{EndsFile, IsCopyingCause, IsFaultOf, IsOutputCause};
+ghost use Rattle.c2_cmd_outcome.specs.Reply.{IsReplyTo, MakesFile, outcome_of};
 ghost use Rattle.c2_cmd_strip.specs.Faults.{strip_says};
-ghost use Rattle.c2_cmd_strip.specs.Outcomes.{IsStripOutcome, IsStripReply, refused_outcome, strip_report};
+ghost use Rattle.c2_cmd_strip.specs.Outcomes.{IsStripOutcome, IsStripReply, refused_outcome};
+ghost use Rattle.c2_cmd_strip.specs.Outcomes.{strip_report};
 
 use crate::lines::{middle_line, stripped_line};
 use c2_base::limits::PIECE_LEN;

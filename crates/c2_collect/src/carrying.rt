@@ -1,5 +1,6 @@
 // Which manifests of a store are carried behind the boxes of another.
-ghost use Rattle.std.specs.Prelude.{◌≡◌, ◌<◌, ◌++◌, ◌∷◌, ◌&&◌, [], ℕ, Err, IfOk, OnOk, bytes_eq, length};
+ghost use Rattle.std.specs.Prelude.{◌≡◌, ◌<◌, ◌++◌, ◌∷◌, ◌&&◌, [], ℕ, Err, IfOk, OnOk, bytes_eq};
+ghost use Rattle.std.specs.Prelude.{length};
 ghost use Rattle.c2_collect_spec.specs.Sides.{ClashFirst};
 ghost use Rattle.c2_collect.specs.Marked.{is_marked, manifests_in};
 ghost use Rattle.c2_collect.specs.Carried.{AreCarried, FindsLabels, IsFound, IsShared};

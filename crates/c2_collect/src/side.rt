@@ -1,7 +1,8 @@
 // One of two stores that are joined.
 ghost use Rattle.std.specs.Prelude.{◌≡◌, ◌++◌, ◌<◌, OnOk, Some, length, slice_get};
 ghost use Rattle.c2_spec.specs.C2pa.Manifest.{IsStoreOf};
-ghost use Rattle.c2_spec.specs.Jumbf.Tree.{AreDistinctLabels, Tree as AnyTree, tree_bytes, trees_bytes};
+ghost use Rattle.c2_spec.specs.Jumbf.Tree.{AreDistinctLabels, Tree as AnyTree, tree_bytes};
+ghost use Rattle.c2_spec.specs.Jumbf.Tree.{trees_bytes};
 ghost use Rattle.c2_new_file_spec.specs.Redacting.{redacted_box, redacted_boxes};
 ghost use Rattle.c2_collect.specs.Marked.{box_bytes, box_labels, is_marked, manifests_in, marked};
 

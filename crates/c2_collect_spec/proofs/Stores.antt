@@ -202,9 +202,11 @@ accepted_rooted rooted hash said file start len t s h =
     let o : IsOpenedStore t = opened_store file start len t h.opened in
     let sided : IsRootedStore hash (boxes_in t) s.readings (last_roots s.readings) =
     valid_rooted rooted hash said t s
-    (record { legal = o.legal; store = o.accepted; reads = h.reads.reads.each; valid = h.valid }) in
-    (sided, subst (λ k. 0 < k) (ap length (supers_are t) ∙ read_len (supers_in (boxes_in t)) s.readings sided.reads)
-    (some_boxes t o.accepted))
+    (record { legal = o.legal; store = o.accepted; reads = h.reads.reads.each; valid = h.valid }) in (
+      sided,
+      subst (λ k. 0 < k) (ap length (supers_are t) ∙ read_len (supers_in (boxes_in t)) s.readings sided.reads)
+          (some_boxes t o.accepted),
+    )
 
 -- ---- what is taken over
 

@@ -90,7 +90,10 @@ each_meets hash d pair parts p file digests b = record {
 
     met : MeetsTheRules hash file (place_start p) len t (q ∷ pair_questions pair)
     met = subst (λ (f : List ℕ). MeetsTheRules hash f (place_start p) len t (q ∷ pair_questions pair)) (sym b.is)
-        ((collected_place a_place_is_a_split_file (collected_content_meets (collected_meets a_redacted_store_is_read_less a_gathered_store_meets_the_rules_meets))) hash d pair.media.boxes pair.other.boxes pair.media.readings pair.other.readings b.content b.message base b.bytes p own digests b.collected b.can b.signed.spelled put)
+        (collected_place a_place_is_a_split_file
+        (collected_content_meets (collected_meets a_redacted_store_is_read_less a_gathered_store_meets_the_rules_meets))
+        hash d pair.media.boxes pair.other.boxes pair.media.readings pair.other.readings b.content b.message base b.bytes
+        p own digests b.collected b.can b.signed.spelled put)
 
     -- what is signed of a definition, with this protected header and so many bytes for the message
     signed_with : Definition → List ℕ → ℕ → List ℕ

@@ -222,12 +222,19 @@ spelled = record {
 
 -- the message is accepted, where the protected header is its own
 pub accepted_message : IsAccepted parts.protected message
-accepted_message =
-    (lit≤ tt,
-    ((parts, spelled),
-    (λ p s. subst IsPlainMessage (same p s) plain,
-    (λ p s. sym (ap (λ (q : SignParts). q.protected) (same p s)),
-    (λ p s. few p (same p s), (λ p s. none p (same p s), tt))))))
+accepted_message = (
+  lit≤ tt,
+  (
+    (parts, spelled),
+    (
+      λ p s. subst IsPlainMessage (same p s) plain,
+      (
+        λ p s. sym (ap (λ (q : SignParts). q.protected) (same p s)),
+        (λ p s. few p (same p s), (λ p s. none p (same p s), tt)),
+      ),
+    ),
+  ),
+)
   where
     same : (p : SignParts) → SpellsMessage message p → parts ≡ p
     same p s = same_message one_item message parts p spelled s

@@ -1,13 +1,21 @@
 // Laws of stores that are joined, of a new store over them, and of the file that is built with it.
 
-ghost use Rattle.c2_collect_spec.specs.Collected.{CollectedContentIsOne, CollectedStoreMeets, CollectedStoreReaches, JoinedIsReached, QuestionsAreApproved, QuestionsAreOfEither, SomeContentCollects};
+ghost use Rattle.c2_collect_spec.specs.Collected.{CollectedContentIsOne, CollectedStoreMeets};
+ghost use Rattle.c2_collect_spec.specs.Collected.{CollectedStoreReaches, JoinedIsReached};
+ghost use Rattle.c2_collect_spec.specs.Collected.{QuestionsAreApproved, QuestionsAreOfEither};
+ghost use Rattle.c2_collect_spec.specs.Collected.{SomeContentCollects};
 ghost use Rattle.c2_collect_spec.specs.Contents.{CollectedContentMeets};
 ghost use Rattle.c2_collect_spec.specs.Files.{CollectedFileMeets, CollectedFileReaches};
 ghost use Rattle.c2_collect_spec.specs.Lengths.{CollectedIsShort, CollectedStoresFit};
-ghost use Rattle.c2_collect_spec.specs.Order.{CollectablePairIsUnrefused, CollectedIsNotRefused, NothingRefusedIsCollected, SomeFileIsCollected, UnrefusedPairCollects};
-ghost use Rattle.c2_collect_spec.specs.Refusals.{FirstRedactionIsLeastBy, RedactionsAreAcceptedBy, RefusalsAreStanding};
+ghost use Rattle.c2_collect_spec.specs.Order.{CollectablePairIsUnrefused, CollectedIsNotRefused};
+ghost use Rattle.c2_collect_spec.specs.Order.{NothingRefusedIsCollected, SomeFileIsCollected};
+ghost use Rattle.c2_collect_spec.specs.Order.{UnrefusedPairCollects};
+ghost use Rattle.c2_collect_spec.specs.Refusals.{FirstRedactionIsLeastBy, RedactionsAreAcceptedBy};
+ghost use Rattle.c2_collect_spec.specs.Refusals.{RefusalsAreStanding};
 ghost use Rattle.c2_collect_spec.specs.Whole.{EachCollectedFileMeets};
-ghost use Rattle.c2_collect_spec.specs.Stores.{AcceptedFileIsRooted, NoStoreIsRooted, RootedStoreIsTaken, RootedStoresJoin, ValidStoreIsRooted};
+ghost use Rattle.c2_collect_spec.specs.Stores.{AcceptedFileIsRooted, NoStoreIsRooted};
+ghost use Rattle.c2_collect_spec.specs.Stores.{RootedStoreIsTaken, RootedStoresJoin};
+ghost use Rattle.c2_collect_spec.specs.Stores.{ValidStoreIsRooted};
 
 /// Redactions of a chain of which none is refused may be made, and the rules on redactions hold of them. What is answered is the first
 /// that is refused. In one store those are refused that are refused of that store.

@@ -1,9 +1,12 @@
 //! Laws of what a build comes to whose new store collects from two files.
 
-ghost use Rattle.c2_collect_spec.specs.Asked.{OneCollectAsks, OneCollectPlanAsks, SomeCollectAsks, SomeCollectPlanAsks};
-ghost use Rattle.c2_collect_spec.specs.Made.{CollectedIsMade, MadeCollectedMeets, SomeCollectSucceeds};
+ghost use Rattle.c2_collect_spec.specs.Asked.{OneCollectAsks, OneCollectPlanAsks, SomeCollectAsks};
+ghost use Rattle.c2_collect_spec.specs.Asked.{SomeCollectPlanAsks};
+ghost use Rattle.c2_collect_spec.specs.Made.{CollectedIsMade, MadeCollectedMeets};
+ghost use Rattle.c2_collect_spec.specs.Made.{SomeCollectSucceeds};
 ghost use Rattle.c2_collect_spec.specs.Made.{UnrefusedIsCollectMade, UnrefusedIsCollectPlanned};
-ghost use Rattle.c2_collect_spec.specs.Outcomes.{OneCollectMade, OneCollectPlan, SomeCollectMade, SomeCollectPlan};
+ghost use Rattle.c2_collect_spec.specs.Outcomes.{OneCollectMade, OneCollectPlan, SomeCollectMade};
+ghost use Rattle.c2_collect_spec.specs.Outcomes.{SomeCollectPlan};
 
 /// Over two files that are opened as one thing each, and the same other inputs, a plan comes to one thing, and so does a build: the bytes
 /// that are to be signed, the new file, or what is refused first.

@@ -10,7 +10,8 @@ ghost use Rattle.c2_opening.specs.declared.types.Opened.TheVariants as opened;
 ghost use Rattle.c2_opening.specs.declared.types.StoreRead.TheVariants as store_read;
 ghost use Rattle.c2_validate.specs.Checked.{IsOpenedFrom, IsCheckReadCause, readings_of};
 ghost use Rattle.c2_compare_opened.specs.Sides.{IsCompareSide};
-ghost use Rattle.c2_compare.specs.Accepting.{AsksChecked, IsEnded, IsUnaccepted, IsUnopened, IsUnread, ended_as, ended_heard, fault_of};
+ghost use Rattle.c2_compare.specs.Accepting.{AsksChecked, IsEnded, IsUnaccepted, IsUnopened};
+ghost use Rattle.c2_compare.specs.Accepting.{IsUnread, ended_as, ended_heard, fault_of};
 
 use c2_base::{NoMemory, Source};
 use c2_compare_evidence::CompareError;

@@ -13,7 +13,8 @@ ghost use Rattle.c2_compare_evidence.specs.Causes.{IsReadCauseBeside, IsReportCa
 ghost use Rattle.c2_compare_opened.specs.Comparing.{IsComparedAs};
 ghost use Rattle.c2_compare_opened.specs.Sides.{IsSided};
 ghost use Rattle.c2_compare.specs.Accepting.{AsksChecked, LeavesFiles};
-ghost use Rattle.c2_compare.specs.Comparing.{AsksCompared, IsCompared, IsNotAccepted, compare_heard};
+ghost use Rattle.c2_compare.specs.Comparing.{AsksCompared, IsCompared, IsNotAccepted};
+ghost use Rattle.c2_compare.specs.Comparing.{compare_heard};
 
 use crate::accepting::{accept, find, read};
 use c2_base::{NoMemory, Range, Sink, Source};

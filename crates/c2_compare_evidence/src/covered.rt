@@ -6,7 +6,8 @@ ghost use Rattle.c2_base.specs.Sink.{WritesSink};
 ghost use Rattle.c2_base.specs.Source.{ReadsSource};
 ghost use Rattle.c2_cover.specs.Covers.{IsSameText, text_of};
 ghost use Rattle.c2_compare_spec.specs.EvidenceText.{hex_line};
-ghost use Rattle.c2_compare_evidence.specs.Causes.{IsFailure, IsFault, IsLoneCause, IsOfReading, IsReadCauseBeside, IsUnjudged, IsReportCause};
+ghost use Rattle.c2_compare_evidence.specs.Causes.{IsFailure, IsFault, IsLoneCause, IsOfReading};
+ghost use Rattle.c2_compare_evidence.specs.Causes.{IsReadCauseBeside, IsUnjudged, IsReportCause};
 ghost use Rattle.c2_compare_evidence.specs.Covered.{covered_evidence, covered_head};
 ghost use Rattle.c2_compare_evidence.specs.Writing.{IsWritten};
 

@@ -21,7 +21,8 @@ ghost use Rattle.c2_compare_spec.specs.ChainContent.{SameContent, claim_bytes_of
 ghost use Rattle.c2_compare_spec.specs.Comparison.{IsComparison, CompareAsks};
 ghost use Rattle.c2_compare_spec.specs.Correspondence.{Correspond, HaveSameClaim};
 ghost use Rattle.c2_compare_spec.specs.Deciding.{has_same_content};
-ghost use Rattle.c2_compare_spec.specs.Differences.{ingredients_at, all_ingredients, first_difference};
+ghost use Rattle.c2_compare_spec.specs.Differences.{ingredients_at, all_ingredients};
+ghost use Rattle.c2_compare_spec.specs.Differences.{first_difference};
 ghost use Rattle.c2_compare_spec.specs.Evidence.{ListPair, do_differ, IsReal};
 ghost use Rattle.c2_compare_spec.specs.Lists.{IsListOf, IsReachedAt};
 ghost use Rattle.c2_compare_spec.specs.declared.compared.Compared.{Compared as AnyCompared};

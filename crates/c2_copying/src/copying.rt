@@ -3,7 +3,8 @@ ghost use Rattle.std.specs.Prelude.{◌+◌, ◌-◌, ◌<◌, ◌≤◌, length
 ghost use Rattle.std.specs.Option.{ForSome};
 ghost use Rattle.c2_base.specs.Sink.{WritesSink};
 ghost use Rattle.c2_base.specs.Source.{ReadsSource};
-ghost use Rattle.c2_copying.specs.Writing.{IsCopyReadCause, IsStep, IsCopyWriteCause, TakesSpare, piece_of};
+ghost use Rattle.c2_copying.specs.Writing.{IsCopyReadCause, IsStep, IsCopyWriteCause, TakesSpare};
+ghost use Rattle.c2_copying.specs.Writing.{piece_of};
 
 use c2_base::{Failed, Sink, Source, fill_at, write_all};
 use thiserror::Error;

@@ -3,7 +3,8 @@ ghost use Rattle.std.specs.Prelude.{◌≡◌, ◌<◌, ◌≤◌, ◌+◌, min,
 ghost use Rattle.c2_base.specs.Causes.{HasCause};
 ghost use Rattle.c2_base.specs.Source.{StaysSource};
 ghost use Rattle.c2_cover.specs.Covers.{AreMerged, IsStart, ReadsNext};
-ghost use Rattle.c2_cover.specs.Stretches.{IsGiven, IsReady, IsReadTo, due_of, range_place, reading, offset_place};
+ghost use Rattle.c2_cover.specs.Stretches.{IsGiven, IsReady, IsReadTo, due_of, range_place};
+ghost use Rattle.c2_cover.specs.Stretches.{reading, offset_place};
 
 use crate::cover::Cover;
 use crate::offsets::BoxOffset;

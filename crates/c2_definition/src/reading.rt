@@ -3,7 +3,8 @@ ghost use Rattle.std.specs.Prelude.{◌≡◌, ◌↔◌, Bool, true, option_map
 ghost use Rattle.serde_json.specs.View.{view};
 ghost use Rattle.c2_definition.specs.Json.{object_of};
 ghost use Rattle.c2_definition.specs.DefinitionFile as file;
-ghost use Rattle.c2_definition.specs.DefinitionFile.{HavePayloads, definition_of, IsDefinition, Agrees};
+ghost use Rattle.c2_definition.specs.DefinitionFile.{HavePayloads, definition_of, IsDefinition};
+ghost use Rattle.c2_definition.specs.DefinitionFile.{Agrees};
 ghost use Rattle.c2_definition.specs.Stages.{AreLast, Passes, TellsObject, whole};
 ghost use Rattle.c2_definition.specs.declared.fields.FirstFields.{FirstFields as AnyFirst};
 ghost use Rattle.c2_definition.specs.declared.types.Definition.{Definition as AnyDefinition};

@@ -1,5 +1,6 @@
 // The rule on the binding of a manifest to its media file.
-ghost use Rattle.std.specs.Prelude.{◌≡◌, IfOk, IfErr, IsErr, Ok, bytes_eq, Option as AnyOption, Result as AnyResult};
+ghost use Rattle.std.specs.Prelude.{◌≡◌, IfOk, IfErr, IsErr, Ok, bytes_eq, Option as AnyOption};
+ghost use Rattle.std.specs.Prelude.{Result as AnyResult};
 ghost use Rattle.std.specs.Option.{ForSome};
 ghost use Rattle.c2_spec.specs.Digest.{alg_named};
 ghost use Rattle.c2_spec.specs.declared.assertion.FieldError.{FieldError as AnyFieldError};

@@ -57,7 +57,9 @@ fn bmff_exclusions(fields: &BmffHash) -> &[Exclusion]
 }
 
 impl<'c> HardBinding<'c> {
-    ghost use Rattle.c2_hard_binding.specs.Fields.{IsBindingFields, CoversAs, HasBoxesInside, HasNoCover, IsCoverCause, ReadsAs, code_of, named_alg, named_hash};
+    ghost use Rattle.c2_hard_binding.specs.Fields.{IsBindingFields, CoversAs, HasBoxesInside};
+    ghost use Rattle.c2_hard_binding.specs.Fields.{HasNoCover, IsCoverCause, ReadsAs, code_of};
+    ghost use Rattle.c2_hard_binding.specs.Fields.{named_alg, named_hash};
 
     /// The fields of an item of this kind, in a file of this container, or the first that is refused.
     pub fn read(

@@ -6,7 +6,9 @@ ghost use Rattle.c2_base.specs.Source.{StaysSource};
 ghost use Rattle.c2_jpegseg_segments.specs.Causes.{IsJpegCaused};
 ghost use Rattle.c2_base.specs.declared.limits.TheConstants.{FILE_LEN_LIMIT};
 ghost use Rattle.c2_spec.specs.declared.markers.TheConstants.{FILL};
-ghost use Rattle.c2_jpegseg_segments.specs.Segments.{IsKind, FindsMarker, IsSizedOr, IsExtentBy, IsNextOr, IsNextBy, IsMarkerError, IsSegmentRead};
+ghost use Rattle.c2_jpegseg_segments.specs.Segments.{IsKind, FindsMarker, IsSizedOr, IsExtentBy};
+ghost use Rattle.c2_jpegseg_segments.specs.Segments.{IsNextOr, IsNextBy, IsMarkerError};
+ghost use Rattle.c2_jpegseg_segments.specs.Segments.{IsSegmentRead};
 
 use crate::window::Bytes;
 use c2_base::limits::FILE_LEN_LIMIT;

@@ -1,5 +1,6 @@
 // The run of packets that holds a store.
-ghost use Rattle.std.specs.Prelude.{◌≡◌, ◌+◌, ◌++◌, ◌-◌, ◌<◌, ◌≤◌, length, vec_len, true, None, OnOk, IfOk, IfErr};
+ghost use Rattle.std.specs.Prelude.{◌≡◌, ◌+◌, ◌++◌, ◌-◌, ◌<◌, ◌≤◌, length, vec_len, true, None};
+ghost use Rattle.std.specs.Prelude.{OnOk, IfOk, IfErr};
 ghost use Rattle.c2_spec.specs.Jpeg.Store as jpeg;
 ghost use Rattle.c2_base.specs.declared.limits.TheConstants.{MAX_STORE_LEN};
 ghost use Rattle.c2_jpegseg_segments.specs.Packets.{view, IsHeader};
@@ -38,7 +39,8 @@ fn joined(alloc: Global, room: usize, header: &[u8], body: &[u8]) -> Result<Vec<
 }
 
 impl Run {
-    ghost use Rattle.c2_jpegseg_segments.specs.Runs.{collected, missing, goes_on, IsStarted, FailsFirst, IsContinued, IsSegmentError};
+    ghost use Rattle.c2_jpegseg_segments.specs.Runs.{collected, missing, goes_on, IsStarted};
+    ghost use Rattle.c2_jpegseg_segments.specs.Runs.{FailsFirst, IsContinued, IsSegmentError};
 
     /// A run of the first packet alone, from `at` to `end` in a file of `size` bytes.
     ///

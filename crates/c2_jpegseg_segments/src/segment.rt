@@ -1,7 +1,8 @@
 // One segment of the walk.
 ghost use Rattle.std.specs.Prelude.{◌≡◌, ◌<◌, ◌≤◌, length, None, Some, OnOk, IfOk, IfErr, IfSome};
 ghost use Rattle.c2_jpegseg_segments.specs.Packets.{HasHeader};
-ghost use Rattle.c2_jpegseg_segments.specs.Runs.{collected, all_collected, EndsBy, IsSegmentError, RunGoes};
+ghost use Rattle.c2_jpegseg_segments.specs.Runs.{collected, all_collected, EndsBy, IsSegmentError};
+ghost use Rattle.c2_jpegseg_segments.specs.Runs.{RunGoes};
 ghost use Rattle.c2_jpegseg_segments.specs.Walks.{StepsTo, StepFails};
 
 use crate::packet::{self, Packet};

@@ -1,5 +1,6 @@
 // The bytes of a source that were read last, so that small reads don't each ask the source.
-ghost use Rattle.std.specs.Prelude.{◌≡◌, ◌+◌, ◌-◌, ◌<◌, ◌≤◌, length, take, drop, ℕ, List, Option, OnOk, IfOk};
+ghost use Rattle.std.specs.Prelude.{◌≡◌, ◌+◌, ◌-◌, ◌<◌, ◌≤◌, length, take, drop, ℕ, List, Option};
+ghost use Rattle.std.specs.Prelude.{OnOk, IfOk};
 ghost use Rattle.c2_base.specs.Causes.{HasCause};
 ghost use Rattle.c2_base.specs.Source.{StaysSource};
 ghost use Rattle.c2_base.specs.declared.limits.TheConstants.{PIECE_LEN};

@@ -8,7 +8,8 @@ ghost use Rattle.c2_spec.specs.Jpeg.Places.{CanSkip};
 ghost use Rattle.c2_spec.specs.Jpeg.Store.{IsLocated, IsJpegRefusal};
 ghost use Rattle.c2_jpegseg_survey.specs.Answers.{IsFoundOr};
 ghost use Rattle.c2_jpegseg_survey.specs.Keeping.{HasKept};
-ghost use Rattle.c2_jpegseg_survey.specs.Surveys.{HasPacketPoint, IsSurveyCause, IsSurveyOf, found_in, less_found, range_of};
+ghost use Rattle.c2_jpegseg_survey.specs.Surveys.{HasPacketPoint, IsSurveyCause, IsSurveyOf};
+ghost use Rattle.c2_jpegseg_survey.specs.Surveys.{found_in, less_found, range_of};
 
 use crate::keeping::Kept;
 use crate::walking::walk;

@@ -1,10 +1,10 @@
 -- What the judges of this crate hold, and what an ask changes.
-use Rattle.std.specs.Prelude.{◌≡◌, ℕ, ◌+◌, Bool, ◌∷◌, drop, Result, is_err, IfOk, OnOk, OnErr}
+use Rattle.std.specs.Prelude.{◌≡◌, ℕ, ◌+◌, Bool, ◌∷◌, drop, Result, is_err, IfOk, OnOk, OnErr, List}
 use Rattle.c2_base.specs.Causes.{one_more, one_more_if, HasCause}
 use Rattle.c2_base.specs.InMemory.{is_due}
 use Rattle.c2_base.specs.declared.values.Question.{Question}
 use Rattle.c2_spec.specs.declared.panel.Verdict.{Verdict}
-use Rattle.c2_spec.specs.Judges.Panel.{Judges, verdicts, Counted, Failing, MovedAt}
+use Rattle.c2_spec.specs.Judges.Panel.{Judges, judges_of, verdicts, Counted, Failing, MovedAt}
 use Rattle.c2_spec.specs.Judges.Question.{question_digest}
 use Rattle.c2_judge.specs.Reading.{said_at}
 use Rattle.c2_judge.specs.declared.fixed.FixedJudge.{FixedJudge}
@@ -50,10 +50,16 @@ list_says j q = said_at j.verdicts (question_digest q)
 abbrev pub list_asked : ListJudge → ℕ
 list_asked j = j.asked
 
--- For a private clause: what asking the judge at place `i` does to a list of judges.
+-- what asking the judge at place `i` does to a list of judges
 pub record AsksAt {E : Type 0} (i : ℕ) (q : Question) (old new : Judges) (result : Result Verdict E) : Type 0 where
   pub same : new.said ≡ old.said
   pub answer : IfOk result (λ verdict. drop i (verdicts old.said q) ≡ verdict ∷ drop (i + 1) (verdicts old.said q))
   pub counted : MovedAt Counted i old.asked new.asked
   pub ok : OnOk result (new.faults ≡ old.faults)
   pub cause : OnErr result (MovedAt Failing i old.faults new.faults)
+
+-- For a private clause: what asking the judge at place `i` does to a list of judges, by the meanings of the trait.
+abbrev pub AsksJudgeAt : {J E : Type 0} (says : J → Question → Verdict) (times faults : J → ℕ) (i : ℕ) (q : Question) (old new : List J)
+    → Result Verdict E → Type 0
+AsksJudgeAt says times faults i q old new result =
+    AsksAt i q (judges_of says times faults old) (judges_of says times faults new) result

@@ -1,11 +1,13 @@
 // A judge by a verdict file.
-ghost use Rattle.std.specs.Prelude.{◌≡◌, ℕ, ◌≤◌, ◌<◌, ◌⊎◌, List, length, Err, Ok, IfOk, IfErr, IsErrAnd, MatchResult};
+ghost use Rattle.std.specs.Prelude.{◌≡◌, ℕ, ◌≤◌, ◌<◌, ◌⊎◌, List, length, Err, Ok, IfOk, IfErr};
+ghost use Rattle.std.specs.Prelude.{IsErrAnd, MatchResult};
 ghost use Rattle.c2_base.specs.declared.limits.TheConstants.{MAX_INPUT_LEN};
 ghost use Rattle.c2_spec.specs.Judges.Panel.{Counted};
 ghost use Rattle.c2_spec.specs.Judges.Question.{question_digest};
 ghost use Rattle.c2_spec.specs.declared.panel.VerdictRow as row_type;
 ghost use Rattle.c2_spec.specs.declared.panel.ListError.TheVariants as error;
-ghost use Rattle.c2_spec.specs.Judges.VerdictFile.{HasRows, HasBadLine, SaysFile, SaysRows, HasListReason};
+ghost use Rattle.c2_spec.specs.Judges.VerdictFile.{HasRows, HasBadLine, SaysFile, SaysRows};
+ghost use Rattle.c2_spec.specs.Judges.VerdictFile.{HasListReason};
 ghost use Rattle.c2_judge.specs.Judges.{list_says, list_asked};
 ghost use Rattle.c2_judge.specs.Reading.{said_at};
 

@@ -1,7 +1,7 @@
 // A panel of judges.
 ghost use Rattle.std.specs.Prelude.{◌≡◌, ◌<◌, IfOk, OnOk, OnErr, vec_len};
-ghost use Rattle.c2_spec.specs.Judges.Panel.{Counted, Failing, judges_of, LeavesJudges, AsksPanel};
-ghost use Rattle.c2_judge.specs.Judges.{AsksAt};
+ghost use Rattle.c2_spec.specs.Judges.Panel.{AsksJudges, Counted, Failing, LeavesPanel};
+ghost use Rattle.c2_judge.specs.Judges.{AsksJudgeAt};
 
 use crate::{Judge, JudgeFailed, Verdict};
 use c2_base::Question;
@@ -21,11 +21,8 @@ fn ask_one(judge: &mut Box<dyn Judge>, q: &Question) -> Result<Verdict, JudgeFai
 fn ask_at(judges: &mut Vec<Box<dyn Judge>>, i: usize, q: &Question) -> Result<Verdict, JudgeFailed>
     requires { i < vec_len judges.old }
     ensures len { vec_len judges.new ≡ vec_len judges.old }
-    ensures asks { let old = judges_of (λ j. says j) (λ j. asked_times j) (λ j. judge_faults j)
-        judges.old.items in
-        let new = judges_of (λ j. says j) (λ j. asked_times j) (λ j. judge_faults j)
-        judges.new.items in
-        AsksAt i q.now old new result }
+    ensures asks { AsksJudgeAt says asked_times judge_faults i q.now judges.old.items
+        judges.new.items result }
 {
     ask_one(&mut judges[i], q)
 }
@@ -39,16 +36,10 @@ fn ask_at(judges: &mut Vec<Box<dyn Judge>>, i: usize, q: &Question) -> Result<Ve
 pub fn ask_panel(judges: &mut Vec<Box<dyn Judge>>, q: &Question) -> Result<Verdict, JudgeFailed>
     requires { Unit {0} }
     ensures len { vec_len judges.new ≡ vec_len judges.old }
-    ensures asks { let old = judges_of (λ j. says j) (λ j. asked_times j) (λ j. judge_faults j)
-        judges.old.items in
-        let new = judges_of (λ j. says j) (λ j. asked_times j) (λ j. judge_faults j)
-        judges.new.items in
-        AsksPanel q.now old new result }
-    ensures leaves { let old = judges_of (λ j. says j) (λ j. asked_times j) (λ j. judge_faults j)
-        judges.old.items in
-        let new = judges_of (λ j. says j) (λ j. asked_times j) (λ j. judge_faults j)
-        judges.new.items in
-        LeavesJudges old new result }
+    ensures asks { AsksJudges says asked_times judge_faults q.now judges.old.items
+        judges.new.items result }
+    ensures leaves { LeavesPanel says asked_times judge_faults judges.old.items
+        judges.new.items result }
 {
     for i in 0..judges.len() {
         match ask_at(judges, i, q)? {

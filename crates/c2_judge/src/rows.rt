@@ -2,7 +2,8 @@
 ghost use Rattle.std.specs.Prelude.{◌≡◌, MatchOption};
 ghost use Rattle.hex.specs.Hex.{encode_lower};
 ghost use Rattle.c2_spec.specs.Judges.VerdictFile.{IsId};
-ghost use Rattle.c2_judge.specs.Reading.{FirstLine, NoIdDigits, IsIdDigits, OnlyIdDigits, NoRowLine, IsRowLine, word_said};
+ghost use Rattle.c2_judge.specs.Reading.{FirstLine, NoIdDigits, IsIdDigits, OnlyIdDigits};
+ghost use Rattle.c2_judge.specs.Reading.{NoRowLine, IsRowLine, word_said};
 
 use c2_spec::{Verdict, VerdictRow};
 use hex::{decode_to_slice, encode_to_slice};

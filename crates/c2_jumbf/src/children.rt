@@ -2,7 +2,8 @@
 ghost use Rattle.std.specs.Prelude.{◌≡◌, ◌+◌, ◌<◌, ℕ, Option, Some, None, IfSome, IfNone};
 ghost use Rattle.std.specs.List.{slice_get, Contains};
 ghost use Rattle.c2_spec.specs.Jumbf.Tree.{IsLegalTree};
-ghost use Rattle.c2_spec.specs.Jumbf.Boxes.{tree_count, box_at, any_label, child_indices, path_labels, LabelsLead};
+ghost use Rattle.c2_spec.specs.Jumbf.Boxes.{tree_count, box_at, any_label, child_indices};
+ghost use Rattle.c2_spec.specs.Jumbf.Boxes.{path_labels, LabelsLead};
 ghost use Rattle.c2_jumbf.specs.Labels.{is_label};
 
 use crate::borrowed::Tree;

@@ -1,8 +1,10 @@
 // The fields of a description.
-ghost use Rattle.std.specs.Prelude.{◌≡◌, ℕ, List, Option, slice_index, ◌+◌, ◌<◌, ◌≤◌, length, true, None, Some, IfSome, IfNone};
+ghost use Rattle.std.specs.Prelude.{◌≡◌, ℕ, List, Option, slice_index, ◌+◌, ◌<◌, ◌≤◌, length, true};
+ghost use Rattle.std.specs.Prelude.{None, Some, IfSome, IfNone};
 ghost use Rattle.std.specs.Bool.{OnTrue, OnFalse};
 ghost use Rattle.c2_spec.specs.Jumbf.Tree.{PlainBox, IsLabelByte};
-ghost use Rattle.c2_spec.specs.Jumbf.Faults.{IsLabelPart, IsFixedPart, LabelFault, DescriptionFault};
+ghost use Rattle.c2_spec.specs.Jumbf.Faults.{IsLabelPart, IsFixedPart, LabelFault};
+ghost use Rattle.c2_spec.specs.Jumbf.Faults.{DescriptionFault};
 ghost use Rattle.c2_jumbf.specs.Fields.{text_of, IsPrivate, IsNoPrivate, HasFields, HasLabel};
 
 use crate::front;

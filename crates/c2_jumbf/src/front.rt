@@ -1,5 +1,6 @@
 // Heads of boxes.
-ghost use Rattle.std.specs.Prelude.{◌≡◌, ◌+◌, ◌<◌, ◌≤◌, length, take, drop, None, Some, IfOk, IfErr};
+ghost use Rattle.std.specs.Prelude.{◌≡◌, ◌+◌, ◌<◌, ◌≤◌, length, take, drop, None, Some, IfOk};
+ghost use Rattle.std.specs.Prelude.{IfErr};
 ghost use Rattle.std.specs.Int.{w32, w64, to_be_bytes, from_be_bytes};
 ghost use Rattle.c2_spec.specs.Jumbf.Faults.{box_head_fault};
 ghost use Rattle.c2_spec.specs.Jumbf.Boxes.{told_head};

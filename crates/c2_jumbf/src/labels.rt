@@ -1,8 +1,10 @@
 // The labels of siblings: kept as they are read, and compared once all are there or a fault ends the reading.
-ghost use Rattle.std.specs.Prelude.{◌≡◌, ◌↔◌, ◌++◌, [], Some, IsTrue, IfErr, OnOk, ℕ, length, slice_index};
+ghost use Rattle.std.specs.Prelude.{◌≡◌, ◌↔◌, ◌++◌, [], Some, IsTrue, IfErr, OnOk, ℕ, length};
+ghost use Rattle.std.specs.Prelude.{slice_index};
 ghost use Rattle.c2_spec.specs.declared.jumbf.JumbfError.TheVariants.{NoMemory, DuplicateLabel};
 ghost use Rattle.c2_jumbf.specs.Fields.{text_of};
-ghost use Rattle.c2_jumbf.specs.Labels.{front_of, marks, marked, own_marks, Repeats, LeastRepeated, lesser_of, NoneRepeats, IsFirstRepeated, IsFirstFault};
+ghost use Rattle.c2_jumbf.specs.Labels.{front_of, marks, marked, own_marks, Repeats, LeastRepeated};
+ghost use Rattle.c2_jumbf.specs.Labels.{lesser_of, NoneRepeats, IsFirstRepeated, IsFirstFault};
 
 use c2_spec::JumbfError;
 use std::alloc::Global;

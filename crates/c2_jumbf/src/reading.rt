@@ -1,5 +1,6 @@
 // Trees of boxes are read in one pass: each box by its tests, its record written as it is met.
-ghost use Rattle.std.specs.Prelude.{◌≡◌, ◌⊎◌, ◌+◌, ◌^◌, ◌<◌, ◌≤◌, ℕ, List, length, Option, IfOk, IfErr, OnOk, MatchResult};
+ghost use Rattle.std.specs.Prelude.{◌≡◌, ◌⊎◌, ◌+◌, ◌^◌, ◌<◌, ◌≤◌, ℕ, List, length, Option, IfOk};
+ghost use Rattle.std.specs.Prelude.{IfErr, OnOk, MatchResult};
 ghost use Rattle.c2_base.specs.declared.limits.TheConstants.{MAX_SUPERBOX_DEPTH};
 ghost use Rattle.c2_spec.specs.declared.kinds.TheConstants.{JUMB};
 ghost use Rattle.c2_spec.specs.Jumbf.Tree.{SpellsTree};

@@ -4,7 +4,8 @@ ghost use Rattle.std.specs.Int.{w32, from_be_bytes};
 ghost use Rattle.std.specs.Bool.{OnTrue, OnFalse};
 ghost use Rattle.c2_base.specs.declared.limits.TheConstants.{MAX_STORE_LEN};
 ghost use Rattle.c2_spec.specs.Jumbf.Tree.{SpellsTree, tree_bytes, boxed, IsDescription};
-ghost use Rattle.c2_spec.specs.Jumbf.Writing.{IsWrittenLabel, fresh_description, fresh_super, super_size, SuperRefused};
+ghost use Rattle.c2_spec.specs.Jumbf.Writing.{IsWrittenLabel, fresh_description, fresh_super};
+ghost use Rattle.c2_spec.specs.Jumbf.Writing.{super_size, SuperRefused};
 
 use crate::borrowed::Tree;
 use crate::fields::label_end;

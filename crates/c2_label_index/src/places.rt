@@ -1,5 +1,6 @@
 // Where labels stand first.
-ghost use Rattle.std.specs.Prelude.{◌≡◌, ◌++◌, [], ◌∷◌, ℕ, List, Option, Some, OnOk, bytes_eq, length, option_map};
+ghost use Rattle.std.specs.Prelude.{◌≡◌, ◌++◌, [], ◌∷◌, ℕ, List, Option, Some, OnOk, bytes_eq};
+ghost use Rattle.std.specs.Prelude.{length, option_map};
 ghost use Rattle.std.specs.Map.{update};
 ghost use Rattle.c2_label_index.specs.Places.{kept_place, ArePlaces};
 

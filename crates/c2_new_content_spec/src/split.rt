@@ -1,11 +1,15 @@
 //! Laws of files that a store is put into at a split.
 
 ghost use Rattle.c2_new_content_spec.specs.Built.{FileAtSplitIsOne, FileIsBuiltAt};
-ghost use Rattle.c2_new_content_spec.specs.Contents.{ContentFileMeets, ContentSizeIsFixed, FreshContentMeets, GatheredContentMeets, OverContentMeets};
-ghost use Rattle.c2_new_content_spec.specs.Holding.{BoxIsAtSplit, BoxesTextIsTold, PieceIsThere, StoreIsAtSplit, TextIsCovered, TextIsOne};
+ghost use Rattle.c2_new_content_spec.specs.Contents.{ContentFileMeets, ContentSizeIsFixed};
+ghost use Rattle.c2_new_content_spec.specs.Contents.{FreshContentMeets, GatheredContentMeets};
+ghost use Rattle.c2_new_content_spec.specs.Contents.{OverContentMeets};
+ghost use Rattle.c2_new_content_spec.specs.Holding.{BoxIsAtSplit, BoxesTextIsTold, PieceIsThere};
+ghost use Rattle.c2_new_content_spec.specs.Holding.{StoreIsAtSplit, TextIsCovered, TextIsOne};
 ghost use Rattle.c2_new_content_spec.specs.Kept.{LeftKeeps, PieceIsTakenOut, SplitFileKeeps};
 ghost use Rattle.c2_new_content_spec.specs.Meeting.{SplitFileMeets};
-ghost use Rattle.c2_new_content_spec.specs.Refusals.{RoomIsUnrefused, UnrefusedHasRoom, UnrefusedIsBuilt};
+ghost use Rattle.c2_new_content_spec.specs.Refusals.{RoomIsUnrefused, UnrefusedHasRoom};
+ghost use Rattle.c2_new_content_spec.specs.Refusals.{UnrefusedIsBuilt};
 
 /// Where something can be put at a split, there is something to put in of each store; the file has the store in the new
 /// range, and without that range it is what it was.

@@ -1,6 +1,7 @@
 //! Laws of the file that is built of a BMFF file.
 
-ghost use Rattle.c2_new_file_spec.specs.Films.{BindingHasOneLength, BmffBaseIsItsBase, BmffSizeIsFixed};
+ghost use Rattle.c2_new_file_spec.specs.Films.{BindingHasOneLength, BmffBaseIsItsBase};
+ghost use Rattle.c2_new_file_spec.specs.Films.{BmffSizeIsFixed};
 
 /// The binding of a new BMFF file has 108 bytes and those of its digest: 140 by SHA-256, 156 by SHA-384, 172 by SHA-512. So the length
 /// of the store depends on no digest.

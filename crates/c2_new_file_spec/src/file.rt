@@ -1,6 +1,8 @@
 //! Laws of places.
 
-ghost use Rattle.c2_new_file_spec.specs.Laws.{BindingsAreKnown, FreshHasPlace, LeftHasContainer, LeftHasPlace, OneLeft, OnePlace, PlaceSizeIsFixed, SomeLeft};
+ghost use Rattle.c2_new_file_spec.specs.Laws.{BindingsAreKnown, FreshHasPlace, LeftHasContainer};
+ghost use Rattle.c2_new_file_spec.specs.Laws.{LeftHasPlace, OneLeft, OnePlace, PlaceSizeIsFixed};
+ghost use Rattle.c2_new_file_spec.specs.Laws.{SomeLeft};
 
 /// A file has one place for a new store.
 pub fn a_place_is_one()

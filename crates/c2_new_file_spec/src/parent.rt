@@ -1,6 +1,8 @@
 //! Laws of what is taken over.
 
-ghost use Rattle.c2_new_file_spec.specs.Carrying.{BaseHasNoStore, ContentIsOne, FirstIsRefused, ParentIsOne, RedactionsAreAccepted, SomeContentOver, ValidStoreIsCarried};
+ghost use Rattle.c2_new_file_spec.specs.Carrying.{BaseHasNoStore, ContentIsOne, FirstIsRefused};
+ghost use Rattle.c2_new_file_spec.specs.Carrying.{ParentIsOne, RedactionsAreAccepted};
+ghost use Rattle.c2_new_file_spec.specs.Carrying.{SomeContentOver, ValidStoreIsCarried};
 ghost use Rattle.c2_new_file_spec.specs.Refusing.{FirstRedactionIsLeast};
 ghost use Rattle.c2_new_file_spec.specs.Less.{AllAreCarried, RedactedStoreIsRead, WholeStays};
 

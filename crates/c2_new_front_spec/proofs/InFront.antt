@@ -94,9 +94,11 @@ front_roots base (b ∷ bs) store room =
       fits = omega (arith, file_size base b bs store room.has_roots, room.fits);
       begins = ap begins_bmff file ∙ begins_with b others first ∙ first_type base b bs room.has_roots;
       bytes = file;
-      forms =
-          (record { is_box = first; sized = first_sized (is_to_end b.form) room.closed }, forms_more (c2pa_box store) bs
-          (sized_frame store room.small) (other_boxes b bs room.has_roots.forms));
+      forms = (
+        record { is_box = first; sized = first_sized (is_to_end b.form) room.closed },
+        forms_more (c2pa_box store) bs
+            (sized_frame store room.small) (other_boxes b bs room.has_roots.forms),
+      );
       few = omega (arith, room.few);
     }
 

@@ -1,8 +1,12 @@
 //! Laws of the file that is built with its store in front.
 
-ghost use Rattle.c2_new_front_spec.specs.Fronts.{CoveredTextIsKnown, FrontHasItsStore, OneFront, SomeFront};
-ghost use Rattle.c2_new_front_spec.specs.Meeting.{BytesOfFrontStay, ChunksOfFrontStay, FreshFrontMeets};
-ghost use Rattle.c2_new_front_spec.specs.Order.{BuiltIsNotRefused, NothingRefusedIsBuilt, PlannedIsFresh, PlannedIsNotRefused, UnrefusedCanBePlanned};
+ghost use Rattle.c2_new_front_spec.specs.Fronts.{CoveredTextIsKnown, FrontHasItsStore, OneFront};
+ghost use Rattle.c2_new_front_spec.specs.Fronts.{SomeFront};
+ghost use Rattle.c2_new_front_spec.specs.Meeting.{BytesOfFrontStay, ChunksOfFrontStay};
+ghost use Rattle.c2_new_front_spec.specs.Meeting.{FreshFrontMeets};
+ghost use Rattle.c2_new_front_spec.specs.Order.{BuiltIsNotRefused, NothingRefusedIsBuilt};
+ghost use Rattle.c2_new_front_spec.specs.Order.{PlannedIsFresh, PlannedIsNotRefused};
+ghost use Rattle.c2_new_front_spec.specs.Order.{UnrefusedCanBePlanned};
 ghost use Rattle.c2_new_front_spec.specs.Splits.{FrontIsSplit};
 
 /// There is one file whose new store comes right after the file type box and binds all that its exclusions leave of the file, and in

@@ -1,7 +1,9 @@
 //! Laws of what a build in front of a BMFF file comes to.
 
-ghost use Rattle.c2_new_front_spec.specs.Made.{ChunksAreThereOrRefused, MadeFrontMeets, UnrefusedIsMade, UnrefusedIsPlanned};
-ghost use Rattle.c2_new_front_spec.specs.Outcomes.{OneFrontMade, OneFrontPlan, SomeFrontMade, SomeFrontPlan};
+ghost use Rattle.c2_new_front_spec.specs.Made.{ChunksAreThereOrRefused, MadeFrontMeets};
+ghost use Rattle.c2_new_front_spec.specs.Made.{UnrefusedIsMade, UnrefusedIsPlanned};
+ghost use Rattle.c2_new_front_spec.specs.Outcomes.{OneFrontMade, OneFrontPlan, SomeFrontMade};
+ghost use Rattle.c2_new_front_spec.specs.Outcomes.{SomeFrontPlan};
 
 /// Over a media file that is opened as one thing, and the same other inputs, a plan comes to one thing, and so does a build: the bytes that
 /// are to be signed, the new file, or what is refused first.

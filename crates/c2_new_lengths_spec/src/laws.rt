@@ -1,6 +1,7 @@
 //! Laws of the length of a new store.
 
-ghost use Rattle.c2_new_lengths_spec.specs.Lengths.{DefinitionsAreShort, BmffStoresAreShort, JpegStoresAreShort, StoresAreShort};
+ghost use Rattle.c2_new_lengths_spec.specs.Lengths.{DefinitionsAreShort, BmffStoresAreShort};
+ghost use Rattle.c2_new_lengths_spec.specs.Lengths.{JpegStoresAreShort, StoresAreShort};
 ghost use Rattle.c2_new_lengths_spec.specs.Lengths.{StoresFit};
 
 /// Of a definition that was read of a file no text is longer than a definition file may be, and its assertions hold thrice that together

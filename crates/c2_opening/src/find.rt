@@ -5,7 +5,8 @@ ghost use Rattle.c2_base.specs.Source.{StaysSource};
 ghost use Rattle.c2_spec.specs.Located.{refusal, as_located};
 ghost use Rattle.c2_spec.specs.Reason.{media_refusal};
 ghost use Rattle.c2_container.specs.Contained as contained;
-ghost use Rattle.c2_opening.specs.Opened.{HasContainer, IsOpeningCause, IsErrorOf, IsFound, IsWithin, located_of};
+ghost use Rattle.c2_opening.specs.Opened.{HasContainer, IsOpeningCause, IsErrorOf, IsFound};
+ghost use Rattle.c2_opening.specs.Opened.{IsWithin, located_of};
 
 use crate::error::ValidateError;
 use crate::types::{Media, Opened};

@@ -6,7 +6,8 @@ ghost use Rattle.c2_rules.specs.Rules.{redaction_tests};
 ghost use Rattle.c2_new_file_spec.specs.Refusing as form;
 ghost use Rattle.c2_new_file_spec.specs.Refusing.{new_claim_uri};
 ghost use Rattle.c2_collect_spec.specs.Collected.{collected_readings};
-ghost use Rattle.c2_parent.specs.Both.{IsCodeOfBoth, IsFirstRefusedOfBoth, IsRedactable, later_in_both};
+ghost use Rattle.c2_parent.specs.Both.{IsCodeOfBoth, IsFirstRefusedOfBoth, IsRedactable};
+ghost use Rattle.c2_parent.specs.Both.{later_in_both};
 ghost use Rattle.c2_parent.specs.Named.{AreNamed};
 ghost use Rattle.c2_parent.specs.Refused.{any_so, code_of, still_there};
 

@@ -1,7 +1,8 @@
 // Boxes of a tree, appended as they stand or with other boxes in them.
 ghost use Rattle.std.specs.Prelude.{◌≡◌, ◌++◌, ◌<◌, ◌≤◌, OnOk, length};
 ghost use Rattle.c2_spec.specs.Jumbf.Tree.{head_bytes, trees_bytes};
-ghost use Rattle.c2_spec.specs.Jumbf.Boxes.{tree_count, box_at, index_after, any_bytes, any_contents, any_kind, any_wide};
+ghost use Rattle.c2_spec.specs.Jumbf.Boxes.{tree_count, box_at, index_after, any_bytes};
+ghost use Rattle.c2_spec.specs.Jumbf.Boxes.{any_contents, any_kind, any_wide};
 ghost use Rattle.c2_parent.specs.Boxes.{AreFrom, any_boxes, front_bytes};
 ghost use Rattle.c2_new_file_spec.specs.Redacting.{boxes_in};
 

@@ -1,10 +1,12 @@
 // Manifests of an older store, each less what redactions name of it.
-ghost use Rattle.std.specs.Prelude.{◌≡◌, ◌++◌, ◌||◌, ◌<◌, ◌≤◌, [], IfOk, OnOk, if◌then◌else◌, length, codes};
+ghost use Rattle.std.specs.Prelude.{◌≡◌, ◌++◌, ◌||◌, ◌<◌, ◌≤◌, [], IfOk, OnOk, if◌then◌else◌};
+ghost use Rattle.std.specs.Prelude.{length, codes};
 ghost use Rattle.c2_spec.specs.C2pa.Manifest as form;
 ghost use Rattle.c2_spec.specs.Jumbf.Tree.{trees_bytes};
 ghost use Rattle.c2_spec.specs.Jumbf.Boxes.{tree_count, box_at, any_bytes, any_contents, any_label};
 ghost use Rattle.c2_rules.specs.Chains.{passes_some};
-ghost use Rattle.c2_parent.specs.Boxes.{any_boxes, changed, child_of, is_any_store, lost, lost_in_store, name_in};
+ghost use Rattle.c2_parent.specs.Boxes.{any_boxes, changed, child_of, is_any_store, lost};
+ghost use Rattle.c2_parent.specs.Boxes.{lost_in_store, name_in};
 ghost use Rattle.c2_parent.specs.Named.{is_among};
 ghost use Rattle.c2_new_file_spec.specs.Redacting.{without, thin_boxes};
 

@@ -6,7 +6,8 @@ ghost use Rattle.c2_rules.specs.Rules.{names_own, redacted_tests};
 ghost use Rattle.c2_new_file_spec.specs.Refusing as form;
 ghost use Rattle.c2_new_file_spec.specs.Refusing.{entry_tests, redaction_refusal};
 ghost use Rattle.c2_parent.specs.Named.{AreNamed};
-ghost use Rattle.c2_parent.specs.Refused.{any_so, assertion_of, code_of, later_code, still_there, uri_entry_tests};
+ghost use Rattle.c2_parent.specs.Refused.{any_so, assertion_of, code_of, later_code, still_there};
+ghost use Rattle.c2_parent.specs.Refused.{uri_entry_tests};
 
 use crate::named::{Named, add_named, no_names};
 use crate::targets::{is_still_there, targets_of};
@@ -79,13 +80,7 @@ pub fn is_target<'u>(
     ensures { (redacts : List (List ℕ)) → AreNamed redacts before.now
         → result ≡ still_there known.now redacts manifest.now label.now }
 {
-    is_still_there(
-        known.all,
-        known.targets.as_slice(),
-        before,
-        manifest,
-        label,
-    )
+    is_still_there(known.all, known.targets.as_slice(), before, manifest, label)
 }
 
 /// Whether an ingredient of a reached manifest of a store names the manifest with this label without its signature.

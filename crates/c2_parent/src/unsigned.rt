@@ -1,5 +1,6 @@
 // The manifests that ingredients of reached manifests name without their signatures.
-ghost use Rattle.std.specs.Prelude.{◌≡◌, ◌||◌, ◌&&◌, ◌<◌, ℕ, List, IfOk, OnOk, Some, bytes_eq, length, option_map, slice_get};
+ghost use Rattle.std.specs.Prelude.{◌≡◌, ◌||◌, ◌&&◌, ◌<◌, ℕ, List, IfOk, OnOk, Some, bytes_eq};
+ghost use Rattle.std.specs.Prelude.{length, option_map, slice_get};
 ghost use Rattle.std.specs.List.{list_any};
 ghost use Rattle.c2_label_index.specs.Labels.{is_among};
 ghost use Rattle.c2_rules.specs.Chains as form;

@@ -1,5 +1,6 @@
 // Where the manifests stand that ingredients name.
-ghost use Rattle.std.specs.Prelude.{◌≡◌, ◌<◌, IfOk, length, filter_map, option_and_then, option_map, Some};
+ghost use Rattle.std.specs.Prelude.{◌≡◌, ◌<◌, IfOk, length, filter_map, option_and_then};
+ghost use Rattle.std.specs.Prelude.{option_map, Some};
 ghost use Rattle.c2_spec.specs.C2pa.Assertion.{manifest_named};
 ghost use Rattle.c2_rules.specs.Chains as form;
 ghost use Rattle.c2_rules.specs.declared.parsed.Parsed.TheVariants.{Value};

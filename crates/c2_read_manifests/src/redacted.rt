@@ -1,12 +1,14 @@
 // The labels that are redacted in each manifest: each redaction is looked at once.
-ghost use Rattle.std.specs.Prelude.{◌≡◌, ◌<◌, ℕ, List, IfOk, IfSome, OnOk, Some, [], ◌∷◌, length, option_and_then, option_map};
+ghost use Rattle.std.specs.Prelude.{◌≡◌, ◌<◌, ℕ, List, IfOk, IfSome, OnOk, Some, [], ◌∷◌, length};
+ghost use Rattle.std.specs.Prelude.{option_and_then, option_map};
 ghost use Rattle.std.specs.List.{list_any};
 ghost use Rattle.c2_spec.specs.C2pa.Manifest.{IsStoreOf, manifests_of};
 ghost use Rattle.c2_spec.specs.C2pa.Uri.{target_view};
 ghost use Rattle.c2_rules.specs.Chains as form;
 ghost use Rattle.c2_rules.specs.Chains.{LabelsDiffer};
 ghost use Rattle.c2_rules.specs.Readings.{AreReadings, redactions_in};
-ghost use Rattle.c2_read_manifests.specs.Redacted.{names_at, is_aimed, AddsTexts, AddsAt, AddsOf, AreNone, AreRedacted, AreTouched};
+ghost use Rattle.c2_read_manifests.specs.Redacted.{names_at, is_aimed, AddsTexts, AddsAt, AddsOf};
+ghost use Rattle.c2_read_manifests.specs.Redacted.{AreNone, AreRedacted, AreTouched};
 
 use crate::kept::{ReadManifest, is_own};
 use crate::labelled::{Manifests, kept, place_among};

@@ -1,5 +1,6 @@
 //! Laws over the definitions.
-ghost use Rattle.std.specs.Prelude.{◌≡◌, ◌↔◌, ℕ, true, false, List, Option, Some, None, Ok, Result, is_some, Contains};
+ghost use Rattle.std.specs.Prelude.{◌≡◌, ◌↔◌, ℕ, true, false, List, Option, Some, None, Ok, Result};
+ghost use Rattle.std.specs.Prelude.{is_some, Contains};
 ghost use Rattle.c2_spec.specs.C2pa.Manifest.{Manifest};
 ghost use Rattle.c2_spec.specs.declared.digest.Alg.{Alg};
 ghost use Rattle.c2_spec.specs.declared.panel.Verdict.{Verdict};
@@ -7,7 +8,8 @@ ghost use Rattle.c2_rules.specs.Binding.{Binding, Media, IsBinding, binding_labe
 ghost use Rattle.c2_spec.specs.Cbor.Item.{Item};
 ghost use Rattle.c2_spec.specs.declared.assertion.FieldError.{FieldError};
 ghost use Rattle.c2_spec.specs.declared.assertion.Kind.{Kind};
-ghost use Rattle.c2_rules.specs.Chains.{LabelsDiffer, IsChild, children, Reaches, reaches, Reached, is_reached, IsRedacted, is_redacted, IsTouched, is_touched};
+ghost use Rattle.c2_rules.specs.Chains.{LabelsDiffer, IsChild, children, Reaches, reaches, Reached};
+ghost use Rattle.c2_rules.specs.Chains.{is_reached, IsRedacted, is_redacted, IsTouched, is_touched};
 ghost use Rattle.c2_rules.specs.Readings.{Reading, IsReading, question_in};
 ghost use Rattle.c2_rules.specs.Rules.{binding_tests, claim_tests, manifest_tests, unjudged_tests};
 ghost use Rattle.c2_rules.specs.Seen.{Seen, SameSeen};

@@ -5,7 +5,8 @@ ghost use Rattle.c2_spec.specs.Judges.Panel.{panel_says};
 ghost use Rattle.c2_validate.specs.Validation.{FileAsks};
 ghost use Rattle.c2_base.specs.InMemory.{sure_bytes};
 ghost use Rattle.c2_opening.specs.declared.error.ValidateError.TheVariants as check;
-ghost use Rattle.c2_sample.specs.Sample.{IsFileSampled, IsLength, IsSameError, IsSampled, IsSureFault, SampleAsks, sample_heard};
+ghost use Rattle.c2_sample.specs.Sample.{IsFileSampled, IsLength, IsSameError, IsSampled};
+ghost use Rattle.c2_sample.specs.Sample.{IsSureFault, SampleAsks, sample_heard};
 
 use crate::building::{NewFile, build};
 use crate::media::sample_media;

@@ -5,7 +5,8 @@ ghost use Rattle.c2_base.specs.Sink.{WritesSink, unsaid};
 ghost use Rattle.c2_base.specs.Source.{ReadsSource};
 ghost use Rattle.c2_base.specs.declared.limits.TheConstants.{MAX_STORE_LEN};
 ghost use Rattle.c2_copying.specs.Writing.{EndsSink, IsOverSpare, WritesFile};
-ghost use Rattle.c2_sidecar.specs.Extracts.{IsAnswerOf, IsExtracted, IsExtractReadCause, IsExtractWriteCause, Writes, ending_of};
+ghost use Rattle.c2_sidecar.specs.Extracts.{IsAnswerOf, IsExtracted, IsExtractReadCause};
+ghost use Rattle.c2_sidecar.specs.Extracts.{IsExtractWriteCause, Writes, ending_of};
 ghost use Rattle.c2_sidecar.specs.Stages.{IsFailure, IsRefusedBy, IsStored};
 
 use crate::{ExtractError, Extracted};

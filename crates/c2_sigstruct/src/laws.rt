@@ -3,7 +3,8 @@
 ghost use Rattle.std.specs.Prelude.{◌⊎◌};
 ghost use Rattle.c2_spec.specs.Cbor.Item.{Item};
 ghost use Rattle.c2_spec.specs.C2pa.Sign1.{SignParts, IsMessage};
-ghost use Rattle.c2_sigstruct.specs.Padded.{PaddingAddsItsCost, PaddedIsRead, PaddingIsAllThatIsAdded};
+ghost use Rattle.c2_sigstruct.specs.Padded.{PaddingAddsItsCost, PaddedIsRead};
+ghost use Rattle.c2_sigstruct.specs.Padded.{PaddingIsAllThatIsAdded};
 
 /// An item is a message, with its parts, or is none.
 pub fn each_item_is_a_message_or_not()

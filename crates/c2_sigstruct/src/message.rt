@@ -2,7 +2,8 @@
 ghost use Rattle.std.specs.Prelude.{◌≡◌, length, option_map};
 ghost use Rattle.c2_spec.specs.Cbor.View.{view, items_view};
 ghost use Rattle.c2_spec.specs.C2pa.Sign1.{parts_of};
-ghost use Rattle.c2_sigstruct.specs.Parts.{bytes_in, is_null_item, is_dict, untagged, parts_in_two, parts_in_items, parts_in_list};
+ghost use Rattle.c2_sigstruct.specs.Parts.{bytes_in, is_null_item, is_dict, untagged, parts_in_two};
+ghost use Rattle.c2_sigstruct.specs.Parts.{parts_in_items, parts_in_list};
 
 use c2_base::Blob;
 use c2_spec::{Cbor, Sign1};

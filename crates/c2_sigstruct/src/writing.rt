@@ -3,7 +3,8 @@ ghost use Rattle.std.specs.Prelude.{◌≡◌, ◌+◌, length, replicate, IfOk,
 ghost use Rattle.c2_spec.specs.Cbor.Item.{Pairs, no_pairs};
 ghost use Rattle.c2_spec.specs.Cbor.View.{view, pairs_view};
 ghost use Rattle.c2_spec.specs.C2pa.Sign1.{parts_of, SpellsMessage};
-ghost use Rattle.c2_spec.specs.C2pa.Message.{bare_bytes, pairs_then, tagged_message, with_entries, padded, padded_bytes, padded_read, CanBePadded};
+ghost use Rattle.c2_spec.specs.C2pa.Message.{bare_bytes, pairs_then, tagged_message, with_entries};
+ghost use Rattle.c2_spec.specs.C2pa.Message.{padded, padded_bytes, padded_read, CanBePadded};
 ghost use Rattle.c2_pad.specs.Fill.{zeros_before, fill_pairs, fill_cost};
 
 use crate::Sign1;

@@ -2,7 +2,8 @@
 ghost use Rattle.std.specs.Prelude.{◌<◌, ℕ, List, IfSome, slice_get};
 ghost use Rattle.c2_spec.specs.Jumbf.Tree.{Tree, SpellsTree};
 ghost use Rattle.c2_spec.specs.Jumbf.Boxes.{IsPart, tree_count};
-ghost use Rattle.c2_spec.specs.C2pa.Manifest.{Manifest, ArePartsOf, item_at, manifests_of, claim_bytes};
+ghost use Rattle.c2_spec.specs.C2pa.Manifest.{Manifest, ArePartsOf, item_at, manifests_of};
+ghost use Rattle.c2_spec.specs.C2pa.Manifest.{claim_bytes};
 
 /// The item of a box, and the bytes of each manifest, are parts of the bytes that the store's tree was read from.
 pub fn items_are_parts()

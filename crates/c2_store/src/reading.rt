@@ -1,10 +1,12 @@
 // Reading a tree as a store.
-ghost use Rattle.std.specs.Prelude.{◌≡◌, ◌⊎◌, ◌<◌, ◌==◌, All, IfOk, MatchResult, Some, None, map, length};
+ghost use Rattle.std.specs.Prelude.{◌≡◌, ◌⊎◌, ◌<◌, ◌==◌, All, IfOk, MatchResult, Some, None, map};
+ghost use Rattle.std.specs.Prelude.{length};
 ghost use Rattle.std.specs.List.{flat_map, list_any};
 ghost use Rattle.std.specs.Option.{option_or};
 ghost use Rattle.c2_spec.specs.Jumbf.Boxes.{tree_count, box_at, any_label};
 ghost use Rattle.c2_spec.specs.C2pa.Manifest as form;
-ghost use Rattle.c2_spec.specs.C2pa.Manifest.{first_refusal, manifest_tests, manifest_boxes, store_refusal, store_of};
+ghost use Rattle.c2_spec.specs.C2pa.Manifest.{first_refusal, manifest_tests, manifest_boxes};
+ghost use Rattle.c2_spec.specs.C2pa.Manifest.{store_refusal, store_of};
 
 use crate::boxes::{has_label, has_uuid, superboxes};
 use crate::manifests::manifest;

@@ -4,7 +4,8 @@ ghost use Rattle.std.specs.Option.{ForSome};
 ghost use Rattle.c2_base.specs.Sink.{WritesSink, unsaid};
 ghost use Rattle.c2_base.specs.Source.{ReadsSource};
 ghost use Rattle.c2_copying.specs.Writing.{EndsSink, IsOverSpare, WritesFile};
-ghost use Rattle.c2_strip.specs.Answers.{IsAnswerOf, IsStripReadCause, IsStripped, IsStripWriteCause, Writes, ending_of};
+ghost use Rattle.c2_strip.specs.Answers.{IsAnswerOf, IsStripReadCause, IsStripped};
+ghost use Rattle.c2_strip.specs.Answers.{IsStripWriteCause, Writes, ending_of};
 ghost use Rattle.c2_strip.specs.Endings.{IsRefusedBy};
 
 use crate::ending::answer_of;

@@ -3,7 +3,8 @@ ghost use Rattle.std.specs.Prelude.{◌≡◌, ◌+◌, ◌-◌, ◌<◌, ◌≤
 ghost use Rattle.std.specs.Option.{ForSome};
 ghost use Rattle.c2_base.specs.Sink.{WritesSink, unsaid};
 ghost use Rattle.c2_base.specs.Source.{ReadsSource};
-ghost use Rattle.c2_copying.specs.Writing.{IsCopyReadCause, IsCopyWriteCause, IsOverSpare, IsStep, IsWhole, TakesSpare, ending_of};
+ghost use Rattle.c2_copying.specs.Writing.{IsCopyReadCause, IsCopyWriteCause, IsOverSpare, IsStep};
+ghost use Rattle.c2_copying.specs.Writing.{IsWhole, TakesSpare, ending_of};
 ghost use Rattle.c2_strip.specs.Stripping.{stripped};
 
 use c2_base::{Failed, Range, Sink, Source};

@@ -1,7 +1,8 @@
 // Reading the URI of a box.
 ghost use Rattle.std.specs.Prelude.{◌≡◌, option_map};
 ghost use Rattle.std.specs.List.{list_any};
-ghost use Rattle.c2_spec.specs.C2pa.Uri.{is_slash, has_empty_label, after_piece, target_of, target_view, uri_view, uri_of, absolute_uri, relative_uri};
+ghost use Rattle.c2_spec.specs.C2pa.Uri.{is_slash, has_empty_label, after_piece, target_of};
+ghost use Rattle.c2_spec.specs.C2pa.Uri.{target_view, uri_view, uri_of, absolute_uri, relative_uri};
 
 use c2_spec::{Target, Uri};
 

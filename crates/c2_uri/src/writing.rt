@@ -1,6 +1,7 @@
 // Writing the URI of a box.
 ghost use Rattle.std.specs.Prelude.{◌≡◌, ◌++◌, Some, OnOk, IfOk, string_bytes};
-ghost use Rattle.c2_spec.specs.C2pa.Uri.{target_path, behind_manifest, target_view, uri_view, uri_of, uri_text};
+ghost use Rattle.c2_spec.specs.C2pa.Uri.{target_path, behind_manifest, target_view, uri_view};
+ghost use Rattle.c2_spec.specs.C2pa.Uri.{uri_of, uri_text};
 ghost use Rattle.c2_uri.specs.Writing.{IsWritable};
 
 use crate::parsing::{ASSERTIONS, SCHEME, SIGNATURE, STORE};

@@ -1,9 +1,13 @@
 // Which word is which.
-ghost use Rattle.std.specs.Prelude.{◌≡◌, ◌+◌, ◌<◌, ◌≤◌, IfSome, length, map, string_bytes, option_and_then, option_map, position};
+ghost use Rattle.std.specs.Prelude.{◌≡◌, ◌+◌, ◌<◌, ◌≤◌, IfSome, length, map, string_bytes};
+ghost use Rattle.std.specs.Prelude.{option_and_then, option_map, position};
 ghost use Rattle.std.specs.Option.{ForSome};
 ghost use Rattle.std.specs.List.{list_all};
 ghost use Rattle.c2_spec.specs.Digest.{alg_named};
-ghost use Rattle.c2_usage.specs.CommandLine.{GivesRoles, first_judge, fit, is_algorithm, is_count, is_fourth, is_name, is_media, is_out, is_second, is_third, pieces_of, roles_of_names, roles_with, word_as, words_of};
+ghost use Rattle.c2_usage.specs.CommandLine.{GivesRoles, first_judge, fit, is_algorithm, is_count};
+ghost use Rattle.c2_usage.specs.CommandLine.{is_fourth, is_name, is_media, is_out, is_second};
+ghost use Rattle.c2_usage.specs.CommandLine.{is_third, pieces_of, roles_of_names, roles_with};
+ghost use Rattle.c2_usage.specs.CommandLine.{word_as, words_of};
 
 use crate::commands::{command_of, words_of};
 use crate::numbers::pieces_of;

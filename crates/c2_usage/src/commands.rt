@@ -1,6 +1,9 @@
 // The commands, their words, and what those are.
 ghost use Rattle.std.specs.Prelude.{◌≡◌, ◌≤◌, bytes_eq, find, length};
-ghost use Rattle.c2_usage.specs.CommandLine.{EachHasSameWords, command_of, commands, has_form, is_algorithm, is_count, is_fourth, is_media, is_one_word, is_out, is_second, is_third, name_of, usage_parts, usage_text, words_of};
+ghost use Rattle.c2_usage.specs.CommandLine.{EachHasSameWords, command_of, commands, has_form};
+ghost use Rattle.c2_usage.specs.CommandLine.{is_algorithm, is_count, is_fourth, is_media};
+ghost use Rattle.c2_usage.specs.CommandLine.{is_one_word, is_out, is_second, is_third, name_of};
+ghost use Rattle.c2_usage.specs.CommandLine.{usage_parts, usage_text, words_of};
 
 use crate::numbers::pieces_of;
 use crate::types::{Command, Role};

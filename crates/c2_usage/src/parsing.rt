@@ -4,7 +4,8 @@ ghost use Rattle.std.specs.List.{list_all};
 ghost use Rattle.clap.specs.Simple.{app_of};
 ghost use Rattle.clap.specs.Walk.{rule_of};
 ghost use Rattle.c2_usage.specs.CommandLine.{is_name, roles_of_names};
-ghost use Rattle.c2_usage.specs.Parsing.{IsLeaf, command_line, judge_words, leaf_of, one_word, rule_for};
+ghost use Rattle.c2_usage.specs.Parsing.{IsLeaf, command_line, judge_words, leaf_of, one_word};
+ghost use Rattle.c2_usage.specs.Parsing.{rule_for};
 
 use crate::commands::{commands, name_of, words_of};
 use crate::types::{Command, Role, RolesError};

@@ -7,8 +7,10 @@ ghost use Rattle.c2_spec.specs.Judges.Panel.{panel_says};
 ghost use Rattle.c2_rules.specs.Asking.{HearsPanel};
 ghost use Rattle.c2_calls_spec.specs.Asks.{AsksKnown};
 ghost use Rattle.c2_container.specs.Contained.{HasRootsInside};
-ghost use Rattle.c2_validate.specs.Checked.{HasTextSize, IsCheckedOver, IsCheckReadCause, StoreAsks, answer_as, validate_heard};
-ghost use Rattle.c2_validate.specs.Boxes.{BoxesAsk, IsAnsweredOver, IsBoxesAnswer, IsMediaAnswer, MediaAsks};
+ghost use Rattle.c2_validate.specs.Checked.{HasTextSize, IsCheckedOver, IsCheckReadCause};
+ghost use Rattle.c2_validate.specs.Checked.{StoreAsks, answer_as, validate_heard};
+ghost use Rattle.c2_validate.specs.Boxes.{BoxesAsk, IsAnsweredOver, IsBoxesAnswer, IsMediaAnswer};
+ghost use Rattle.c2_validate.specs.Boxes.{MediaAsks};
 ghost use Rattle.c2_validate.specs.Checks.{fault_of};
 ghost use Rattle.c2_validate.specs.Validation.{FileAsks, IsAnswered};
 

@@ -9,7 +9,8 @@ ghost use Rattle.c2_rules.specs.Asking.{HearsPanel};
 ghost use Rattle.c2_calls_spec.specs.Asks.{AsksKnown};
 ghost use Rattle.c2_container.specs.Contained.{HasRootsInside};
 ghost use Rattle.c2_validate.specs.Boxes.{BoxesAsk, IsStoreOfAnswer};
-ghost use Rattle.c2_validate.specs.External.{ExternalAsks, IsAnsweredExternal, IsListAnswered, ListAsks};
+ghost use Rattle.c2_validate.specs.External.{ExternalAsks, IsAnsweredExternal, IsListAnswered};
+ghost use Rattle.c2_validate.specs.External.{ListAsks};
 ghost use Rattle.c2_validate.specs.Checked.{IsCheckReadCause, validate_heard};
 
 use crate::checking::{StoreBoxes, check_boxes};

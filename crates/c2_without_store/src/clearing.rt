@@ -3,7 +3,8 @@ ghost use Rattle.std.specs.Prelude.{◌≡◌, ◌≤◌, ◌∷◌, ℕ, List, 
 ghost use Rattle.c2_bmff_boxes.specs.Roots.{AreRootsOf};
 ghost use Rattle.c2_bmff_boxes.specs.Search.{IsStoreOr};
 ghost use Rattle.c2_bmff_rows.specs.declared.row.RootBox.{RootBox};
-ghost use Rattle.c2_without_store.specs.Clears.{ClearsTo, clearing_in, ends_file, root_clearing, row_range};
+ghost use Rattle.c2_without_store.specs.Clears.{ClearsTo, clearing_in, ends_file, root_clearing};
+ghost use Rattle.c2_without_store.specs.Clears.{row_range};
 ghost use Rattle.c2_without_store.specs.declared.clearing.Clearing.TheVariants.{Cut, Freed};
 
 use c2_base::{Found, Range};

@@ -3,7 +3,8 @@ ghost use Rattle.std.specs.Prelude.{◌≡◌, ◌≤◌, ◌∷◌, ◌++◌, �
 ghost use Rattle.c2_bmff_boxes.specs.Roots.{AreRootsOf, FillSource};
 ghost use Rattle.c2_bmff_boxes.specs.Search.{IsStoreOr};
 ghost use Rattle.c2_bmff_rows.specs.declared.row.RootBox.{RootBox};
-ghost use Rattle.c2_without_store.specs.Clears.{AreRootsLeft, cleared_len, root_clearing, rows_behind, rows_left};
+ghost use Rattle.c2_without_store.specs.Clears.{AreRootsLeft, cleared_len, root_clearing};
+ghost use Rattle.c2_without_store.specs.Clears.{rows_behind, rows_left};
 
 use crate::clearing::ends;
 use c2_base::{Found, NoMemory};
