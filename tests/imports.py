@@ -19,6 +19,7 @@ USE = re.compile(r"(?m)^[ ]*(?:pub )?(?:ghost )?use ([^;{\n]*(?:\{[^}]*\})?[^;{\
 WORD = r"[\w']"
 BETWEEN = re.compile(r"[\s(){},;⟦⟧\"]+")
 PLAIN = re.compile(r"[\w'-]+")
+FIELD = re.compile(r"(?m)(?:^[ ]+(?:pub )?|[{;] )[\w'-]+ (?=[=:] )")
 TRAIT = re.compile(r"(?m)^pub trait (\w+).*\n((?:(?!\}).*\n)*)")
 METHOD = re.compile(r"(?m)^    fn (\w+)")
 
@@ -34,16 +35,15 @@ def names_of(text):
 
 
 def words_of(text):
-    """The words of definitions or proofs, those that dots join also by themselves."""
-    joined = {it.strip(".") for it in BETWEEN.split(text)}
-    return joined | {part for it in joined for part in it.split(".")}
+    """The words of definitions or proofs, and of those that dots join the first; the names of fields and of what is defined within are none."""
+    joined = {it.strip(".") for it in BETWEEN.split(FIELD.sub(" ", text))}
+    return joined | {it.split(".")[0] for it in joined}
 
 
 def uses_word(name, words, text):
     """Whether definitions or proofs use an imported name."""
-    signs = [it for it in words if not PLAIN.fullmatch(it)]
     if "◌" in name:
-        return all(it in words or any(it in sign for sign in signs) for it in name.split("◌") if it)
+        return name in words or all(it in words for it in name.split("◌") if it)
     return name in words or not PLAIN.fullmatch(name) and name in text
 
 

@@ -8,7 +8,7 @@ use Rattle.std.proofs.lemmas.Slice.Eq.{bytes_eq-Decides}
 use Rattle.c2_spec.specs.C2pa.Manifest.{is_given}
 use Rattle.c2_spec.specs.Jumbf.Tree.{Tree, Trees, more, none, tree_bytes, tree_label}
 use Rattle.c2_spec.specs.declared.digest.Alg.{Alg}
-use Rattle.c2_rules.specs.Chains.{is_active, is_reached, label_in, place_of}
+use Rattle.c2_rules.specs.Chains.{is_reached, label_in, place_of}
 use Rattle.c2_rules.specs.Readings.{Reading}
 use Rattle.c2_rules.proofs.ListLemmas.{from_any}
 use Rattle.c2_rules.proofs.ReachLemmas.{place_is}

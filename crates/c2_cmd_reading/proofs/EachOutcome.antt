@@ -10,7 +10,6 @@ use Rattle.c2_spec.specs.C2pa.Manifest.{Manifest, HasClaim, manifests_of}
 use Rattle.c2_spec.specs.Container.{IsLocated}
 use Rattle.c2_spec.specs.Jumbf.Tree.{Tree}
 use Rattle.c2_spec.specs.Located.{Opening, Located, refused, absent, here}
-use Rattle.c2_rules.specs.CheckList.{questions}
 use Rattle.c2_rules.specs.Claims.{HaveClaims}
 use Rattle.c2_rules.specs.Opened.{Opens, IsManifestStore, IsBoxed, IsOpened}
 use Rattle.c2_rules.specs.Readings.{Reading, IsReading, AreReadings, claim_in}

@@ -12,7 +12,6 @@ use Rattle.c2_spec.specs.C2pa.Manifest.{Manifest, manifests_of}
 use Rattle.c2_spec.specs.Jumbf.Tree.{AreDistinctLabels, IsLegalTree, IsNewLabel, Tree, Trees, leaf, super, tree_bytes, tree_label}
 use Rattle.c2_spec.specs.declared.digest.Alg.{Alg}
 use Rattle.c2_spec.specs.declared.panel.Verdict.{Verdict}
-use Rattle.c2_rules.specs.Chains.{is_reached}
 use Rattle.c2_rules.specs.CheckList.{StoreReading, active_in, active_tests, chain_tests, check_list, judged_tests, last_tests}
 use Rattle.c2_rules.specs.Readings.{AreReadings, IsReading, Reading}
 use Rattle.c2_rules.specs.Rules.{unjudged_tests}

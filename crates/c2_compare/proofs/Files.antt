@@ -14,7 +14,7 @@ use Rattle.c2_spec.specs.declared.digest.Alg.{Alg}
 use Rattle.c2_spec.specs.declared.panel.Verdict.{Verdict}
 use Rattle.c2_spec.specs.declared.reason.Reason.{Reason}
 use Rattle.c2_spec.specs.declared.store.ManifestBoxes.{ManifestBoxes}
-use Rattle.c2_rules.specs.Binding.{Binding, Media, binding_value}
+use Rattle.c2_rules.specs.Binding.{Binding, binding_value}
 use Rattle.c2_rules.specs.CheckList.{HasBindingOf, StoreReading, active_in, check_asks}
 use Rattle.c2_rules.specs.Opened.{IsOpened}
 use Rattle.c2_rules.specs.Readings.{AreReadings, Reading}

@@ -1,5 +1,5 @@
 -- One append after another.
-use Rattle.std.proofs.Common.{◌≡◌, refl, sym, ap, ◌∙◌, subst, ℕ, ◌+◌, Bool, List, ◌++◌, length, Result, Ok, Err, arith, length-append}
+use Rattle.std.proofs.Common.{◌≡◌, refl, sym, ap, ◌∙◌, subst, ℕ, Bool, List, ◌++◌, length, Result, Ok, Err, arith, length-append}
 use Rattle.std.specs.declared.option.Option.{Option}
 use Rattle.c2_base.specs.Causes.{Rose}
 use Rattle.c2_base.specs.Sink.{then_written, spare_less, OkWithinSpare}

@@ -1,5 +1,5 @@
 -- What a walk knows of the segments outside the packets of a store, for private clauses.
-use Rattle.std.specs.Prelude.{ℕ, ◌-◌, List, length, Option, Some, None}
+use Rattle.std.specs.Prelude.{ℕ, ◌-◌, List, Option, Some, None}
 use Rattle.c2_base.specs.declared.values.Range.{Range}
 use Rattle.c2_spec.specs.Jpeg.Segments.{Segment}
 use Rattle.c2_jpegseg_segments.specs.Fronts.{IsFront}

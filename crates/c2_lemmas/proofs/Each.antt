@@ -1,5 +1,5 @@
 -- What holds of each member of a list, and what a list contains.
-use Rattle.std.proofs.Common.{Contains, List, None, Option, Some, [], ap, ap₂, arith, get_or, length, refl, slice_get, subst, suc, zero, ℕ, ◌++◌, ◌+◌, ◌<◌, ◌∙◌, ◌∷◌, ◌≡◌, ◌≢◌}
+use Rattle.std.proofs.Common.{Contains, List, None, Option, Some, [], ap, ap₂, arith, get_or, length, refl, slice_get, subst, suc, zero, ℕ, ◌++◌, ◌<◌, ◌∙◌, ◌∷◌, ◌≡◌, ◌≢◌}
 use Rattle.std.proofs.lemmas.List.Elements.{All-contains, All-from_recursion}
 use Rattle.std.proofs.lemmas.Option.{get_or_from_slice_get, same_Some, slice_get-get_or, slice_get_within}
 use Rattle.std.specs.List.{AllByRecursion, AllZip}

@@ -1,5 +1,5 @@
 -- Root boxes in two parts, and a box between them. These lemmas stand in `c2_bmff_insert_spec` too, which keeps them to itself.
-use Rattle.std.proofs.Common.{◌+◌, List, [], ◌∷◌, ◌++◌}
+use Rattle.std.proofs.Common.{List, [], ◌∷◌, ◌++◌}
 use Rattle.c2_spec.specs.Bmff.Boxes.{AreBoxForms, Box}
 
 -- boxes after others are in their forms

@@ -2,7 +2,7 @@
 use Rattle.c2_cbor_spec.proofs.TheLaws.{sorting_keeps_the_length}
 use Rattle.c2_assertion.proofs.TheLaws.{a_written_bmff_hash_is_read, written_items_are_in_order_bmff, written_items_have_plain_keys_bmff}
 use Rattle.std.specs.Prelude.{All}
-use Rattle.std.proofs.Common.{◌≡◌, ℕ, ◌+◌, ◌≤◌, List, [], ◌∷◌, length, Ok, refl, ap, ◌∙◌, subst, arith, codes, length-append, lit<, lit≤}
+use Rattle.std.proofs.Common.{◌≡◌, ℕ, ◌+◌, List, [], ◌∷◌, length, Ok, refl, ap, ◌∙◌, subst, arith, codes, length-append, lit<, lit≤}
 use Rattle.std.proofs.lemmas.List.Elements.{All-cons, All-nil}
 use Rattle.c2_spec.specs.Bmff.Boxes.{ftyp_kind, uuid_kind}
 use Rattle.c2_spec.specs.Bmff.Hash.{BmffHash, bmff_hash_of}

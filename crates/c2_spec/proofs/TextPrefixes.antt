@@ -1,6 +1,6 @@
 -- Texts that begin with a piece.
 use Rattle.c2_spec.specs.C2pa.Uri.{after_piece}
-use Rattle.std.proofs.Common.{Bool, List, MatchOption, None, Option, Some, ap, cond, drop, eqb, false, length, refl, sym, true, ℕ, ⊎_elim, ◌++◌, ◌+◌, ◌∙◌, ◌≡◌}
+use Rattle.std.proofs.Common.{Bool, List, MatchOption, None, Option, Some, ap, cond, drop, eqb, false, length, refl, sym, true, ℕ, ⊎_elim, ◌++◌, ◌∙◌, ◌≡◌}
 use Rattle.std.proofs.lemmas.Bool.{cases_Bool}
 use Rattle.std.proofs.lemmas.Bool.Decides.{Decides-eqb}
 use Rattle.std.proofs.lemmas.Slice.Eq.{starts_is}
