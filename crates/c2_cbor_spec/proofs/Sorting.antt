@@ -9,7 +9,8 @@ use Rattle.c2_spec.specs.Cbor.Item.{Item, Items, no_items, item, Pairs, no_pairs
 use Rattle.c2_spec.specs.Cbor.Deterministic.{preferred, preferred_items, preferred_pairs, shortest_head, insert_pair, sorted, sorted_items, sorted_pairs, deterministic}
 use Rattle.c2_spec.specs.Cbor.View.{view, items_view, pairs_view}
 use Rattle.c2_spec.specs.declared.cbor.Cbor.{Cbor, List as List', Map, Tag}
-use Rattle.c2_cbor_spec.proofs.Views.{view-List, view-Map, view-Tag, items_len-view, pairs_len-view}
+use Rattle.c2_cbor_spec.proofs.Views.{view-Map, view-Tag, items_len-view, pairs_len-view}
+use Rattle.c2_spec.proofs.CborViews.{view-List}
 
 -- ---- lengths
 

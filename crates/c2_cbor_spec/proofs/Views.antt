@@ -2,7 +2,7 @@
 use Rattle.std.proofs.Common.{◌≡◌, ℕ, suc, List, [], ◌∷◌, ◌++◌, length, refl, ap, ◌∙◌, sym, rules, arith, Vec, vec_len, Box, cond, ◌≤◌, ◌+◌, append_assoc, subst, ◌<◌, ◌^◌}
 use Rattle.std.proofs.lemmas.Bool.{le-ltb}
 use Rattle.std.specs.declared.alloc.Global.{Global}
-use Rattle.c2_spec.specs.Cbor.Item.{text, list, dict, tag}
+use Rattle.c2_spec.specs.Cbor.Item.{text, dict, tag}
 use Rattle.c2_cbor_spec.specs.Fine.{Fine, FineItems, FinePairs}
 use Rattle.std.specs.Str.{IsUtf8, is_utf8}
 use Rattle.std.proofs.lemmas.Str.{is_utf8-from_IsUtf8}
@@ -11,11 +11,8 @@ use Rattle.c2_spec.specs.Cbor.View.{view, items_view, pairs_view}
 use Rattle.c2_spec.specs.Cbor.Deterministic.{shortest_head, simple_bytes, preferred, preferred_items, preferred_pairs}
 use Rattle.c2_spec.specs.Cbor.Item.{items_len, pairs_len}
 use Rattle.std.specs.Int.{w16, w32, w64, to_be_bytes}
+use Rattle.c2_spec.proofs.CborViews.{view-List}
 use Rattle.c2_spec.specs.declared.cbor.Cbor.{Cbor, List as List', Text, Map, Tag, Simple, Half, Single, Double, the_lemmas}
-
--- a list as an item is its items
-pub view-List : (v : Vec Cbor Global) → view (List' v) ≡ list (items_view v.items)
-view-List v = search (rules, the_lemmas)
 
 -- a map as an item is its pairs
 pub view-Map : (v : Vec (Cbor × Cbor) Global) → view (Map v) ≡ dict (pairs_view v.items)

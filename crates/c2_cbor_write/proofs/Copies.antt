@@ -5,8 +5,8 @@ use Rattle.std.proofs.lemmas.List.{map_push}
 use Rattle.c2_spec.specs.Cbor.Item.{Item, bytes, text, list, dict, tag}
 use Rattle.c2_spec.specs.Cbor.View.{view, items_view, pairs_view}
 use Rattle.c2_spec.specs.declared.cbor.Cbor.{Cbor, List as List', Bytes, Text, Map, Tag}
-use Rattle.c2_cbor_spec.proofs.Views.{view-List, view-Map, view-Tag, view-text}
-use Rattle.c2_cbor_write.proofs.Lengths.{view-Bytes}
+use Rattle.c2_cbor_spec.proofs.Views.{view-Map, view-Tag, view-text}
+use Rattle.c2_spec.proofs.CborViews.{view-Bytes, view-List}
 
 -- what may be given stands for this, and so for what is equal
 pub stands : {E : Type 0} (r : Result Cbor E) (v w : Item) → v ≡ w → IfOk r (λ x. view x ≡ w)

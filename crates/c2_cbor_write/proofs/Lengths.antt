@@ -1,14 +1,14 @@
 -- The lengths of the preferred bytes of an item and of its parts, and their sums.
-use Rattle.std.proofs.Common.{◌≡◌, ℕ, ◌+◌, ◌^◌, ◌<◌, List, length, Option, Some, None, Vec, vec_len, Box, sym, ap, subst, ◌∙◌, arith, rules}
+use Rattle.std.proofs.Common.{◌≡◌, ℕ, ◌+◌, ◌^◌, ◌<◌, List, length, Option, Some, None, Vec, vec_len, Box, sym, ap, subst, ◌∙◌, arith}
 use Rattle.std.specs.Option.{SomeIff}
 use Rattle.std.specs.declared.alloc.Global.{Global}
 use Rattle.std.proofs.lemmas.List.{length-append}
-use Rattle.c2_spec.specs.Cbor.Item.{bytes}
 use Rattle.c2_spec.specs.Cbor.View.{view, items_view, pairs_view}
 use Rattle.c2_spec.specs.Cbor.Deterministic.{shortest_head, preferred, preferred_items, preferred_pairs}
-use Rattle.c2_spec.specs.declared.cbor.Cbor.{Cbor, List as List', Bytes, Text, Map, Tag, the_lemmas}
+use Rattle.c2_spec.specs.declared.cbor.Cbor.{Cbor, List as List', Bytes, Text, Map, Tag}
 use Rattle.c2_cbor_spec.proofs.Views.{preferred-List, preferred-Map, preferred-Tag}
 use Rattle.c2_cbor_spec.proofs.Views.{view-text}
+use Rattle.c2_spec.proofs.CborViews.{view-Bytes}
 
 -- ---- sums that a number holds
 
@@ -38,10 +38,6 @@ from_none None a d h e = λ lt. h (omega (arith, lt, e))
 from_none (Some x) a d h e = (omega (arith, h.0, e), omega (arith, h.1, e))
 
 -- ---- an item and its parts
-
--- a byte string as an item
-pub view-Bytes : (b : List ℕ) → view (Bytes b) ≡ bytes b
-view-Bytes b = search (rules, the_lemmas)
 
 -- a byte string is as long as its head and its bytes
 pub length-Bytes : (w : Cbor) (b : List ℕ) (s : List ℕ) (h : ℕ) → w ≡ Bytes b → s ≡ b

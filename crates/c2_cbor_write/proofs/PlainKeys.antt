@@ -12,7 +12,8 @@ use Rattle.c2_cbor_write.specs.Entries.{det_keys, value_at, KeysPlain, ValuesPla
 use Rattle.c2_cbor_spec.specs.Marks.{Mark, mark_of, marks, mark_at, IsKeyOrder, LeastRepeated}
 use Rattle.c2_cbor_spec.proofs.Marks.{Lent, mark_is, stands, shows}
 use Rattle.c2_cbor_write.proofs.Entries.{here_is, rest_is}
-use Rattle.c2_cbor_spec.proofs.Views.{view-List, view-Map, view-Tag}
+use Rattle.c2_cbor_spec.proofs.Views.{view-Map, view-Tag}
+use Rattle.c2_spec.proofs.CborViews.{view-List}
 use Rattle.c2_spec.proofs.CborShared.{new_from_bytes}
 
 -- ---- a plain map

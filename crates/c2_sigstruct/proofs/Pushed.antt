@@ -1,16 +1,12 @@
 -- The entries of a fill, put behind those of a map one after the other.
-use Rattle.std.proofs.Common.{◌≡◌, ℕ, List, [], ◌∷◌, ◌++◌, codes, Option, Some, None, refl, ap, ◌∙◌, rules}
-use Rattle.c2_spec.specs.Cbor.Item.{Item, bytes, Pairs, no_pairs, pair}
+use Rattle.std.proofs.Common.{◌≡◌, ℕ, List, [], ◌∷◌, ◌++◌, codes, Option, Some, None, refl, ap, ◌∙◌}
+use Rattle.c2_spec.specs.Cbor.Item.{Item, Pairs, no_pairs, pair}
 use Rattle.c2_spec.specs.Cbor.View.{view, pairs_view}
-use Rattle.c2_spec.specs.declared.cbor.Cbor.{Cbor, Bytes, the_lemmas}
+use Rattle.c2_spec.specs.declared.cbor.Cbor.{Cbor}
 use Rattle.c2_spec.specs.C2pa.Message.{pairs_then}
 use Rattle.c2_pad.specs.declared.types.Fill.{Fill}
 use Rattle.c2_pad.specs.Fill.{zeros_before, fill_pairs}
 use Rattle.c2_sigstruct.proofs.Entries.{then_then, view_push}
-
--- the item of a byte string
-pub view-bytes : (b : List ℕ) → view (Bytes b) ≡ bytes b
-view-bytes b = search (rules, the_lemmas)
 
 -- a pair of these two items stands behind the others
 pub pushed : (old : List (Cbor × Cbor)) (k v : Cbor) (l w : Item) → view k ≡ l → view v ≡ w

@@ -14,6 +14,7 @@ pub mod CborEach
 pub mod CborHeadLengths
 mod CborRows
 pub mod CborShared
+pub mod CborViews
 mod ClaimRows
 pub mod ClaimVersions
 pub mod Containers
