@@ -9,7 +9,8 @@ use Rattle.c2_cbor_spec.specs.declared.head.Count.{Count}
 use Rattle.c2_cbor_spec.specs.declared.head.Head.{Head}
 use Rattle.c2_cbor_spec.specs.declared.head.Head.TheVariants as heads
 use Rattle.c2_cbor_spec.specs.Reading.{Read, ◌>>=◌, Gives, is_known, items, pairs, pairs_seen, body}
-use Rattle.c2_cbor_spec.proofs.Views.{view-List, view-Map}
+use Rattle.c2_cbor_spec.proofs.Views.{view-Map}
+use Rattle.c2_spec.proofs.CborViews.{view-List}
 
 uint_seen : (n : ℕ) → view (Uint n) ≡ uint n
 uint_seen n = search (rules, the_lemmas)
