@@ -12,13 +12,13 @@ use Rattle.c2_rules.specs.Opened.{IsOpened}
 use Rattle.c2_definition.specs.DefinitionFile.{IsDefinition}
 use Rattle.c2_definition.specs.declared.types.Definition.{Definition}
 use Rattle.c2_definition.specs.declared.types.DefinitionField.{DefinitionField}
-use Rattle.c2_new_signature.specs.Message.{RefusedForOne}
+use Rattle.c2_new_signature.specs.Message.{RefusedForOne, IsMessageRead}
 use Rattle.c2_new_signature.specs.declared.error.SignaturePart.{SignaturePart}
 use Rattle.c2_collect_spec.specs.Order.{CollectRefusal, bad_definition, bad_signature, media_refused}
 use Rattle.c2_collect_spec.specs.Outcomes.{AskedBehind, AsksThen, NewFile, Then, Unless}
 use Rattle.c2_collect_spec.specs.Outcomes as collect
 use Rattle.c2_collect_spec.proofs.Stages.{IsOne}
-use Rattle.c2_build_refusals.specs.Stages.{IsDefinitionStage, IsMediaStage, IsMessageRead, IsMessageStage, MediaKind, definition_stage, fresh, media_stage, message_stage, stored}
+use Rattle.c2_build_refusals.specs.Stages.{IsDefinitionStage, IsMediaStage, IsMessageStage, MediaKind, definition_stage, fresh, media_stage, message_stage, stored}
 use Rattle.c2_build_refusals.specs.declared.error.BuildError.{BuildError}
 use Rattle.c2_build_refusals.proofs.Inputs.{one_message}
 use Rattle.c2_build_refusals.proofs.Outside.{outside_map}

@@ -13,7 +13,8 @@ use Rattle.c2_definition.specs.declared.types.Definition.{Definition}
 use Rattle.c2_definition.specs.declared.types.DefinitionField.{DefinitionField}
 use Rattle.c2_new_signature.specs.declared.error.SignaturePart.{SignaturePart}
 use Rattle.c2_new_front_spec.specs.Order.{FrontRefusal, bad_definition, bad_signature, bmff_refusals, has_store, media_refused, not_bmff, plan_refusals, reserve_refusals, store_refusals}
-use Rattle.c2_new_front_spec.specs.Outcomes.{IsBmffStage, IsMadeIn, IsMessageRead, IsNewFile, IsPlannedIn, Then, Unless, front_signed}
+use Rattle.c2_new_front_spec.specs.Outcomes.{IsBmffStage, IsMadeIn, IsNewFile, IsPlannedIn, Then, Unless, front_signed}
+use Rattle.c2_new_signature.specs.Message.{IsMessageRead}
 use Rattle.c2_new_front_spec.specs.Outcomes as front
 use Rattle.c2_new_front_spec.proofs.Stages.{unless_passes}
 use Rattle.c2_build_refusals.proofs.Outside.{outside_map}

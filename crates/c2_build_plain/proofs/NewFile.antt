@@ -39,7 +39,8 @@ use Rattle.c2_new_file_spec.specs.Laws.{OnePlace}
 use Rattle.c2_new_file_spec.specs.Meeting.{BaseStays, CanSucceedAt, FreshPlaceMeets, OverPlaceMeets}
 use Rattle.c2_new_file_spec.specs.Places.{CanPut, IsFreePlace, IsPlace, Place, place_binding, place_file, place_question, place_start, place_store, put_bytes, range_len, store_len}
 use Rattle.c2_build_plain.specs.Building.{Built, IsBuilt, IsEmbedded, IsEmbeddedOn, IsPlanned, IsPlannedOn, built_of, signed_bytes}
-use Rattle.c2_build_refusals.specs.Stages.{HasTextsIn, IsDefinitionStage, IsGroundOver, IsGroundStage, IsMediaStage, IsMessageRead, IsMessageStage, IsPlaceStage, MediaKind, fresh, fresh_ground, stored}
+use Rattle.c2_build_refusals.specs.Stages.{HasTextsIn, IsDefinitionStage, IsGroundOver, IsGroundStage, IsMediaStage, IsMessageStage, IsPlaceStage, MediaKind, fresh, fresh_ground, stored}
+use Rattle.c2_new_signature.specs.Message.{IsMessageRead}
 use Rattle.c2_build_plain.specs.Meeting.{ApprovedIsValid, AreApproved, BuiltFileMeets, BuiltMeets, KeepsBytes}
 use Rattle.c2_build_refusals.specs.Refusals.{Ground, first_refusal, ground_tests, late_tests, new_range_len, older_tests, redaction_tests, refuse_if, reserve_tests}
 use Rattle.c2_build_refusals.specs.declared.error.BuildError.{BuildError}

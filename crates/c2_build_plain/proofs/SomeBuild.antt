@@ -16,14 +16,14 @@ use Rattle.c2_rules.specs.declared.answer.Answer.{Answer}
 use Rattle.c2_definition.specs.DefinitionFile.{IsWellFormed}
 use Rattle.c2_definition.specs.declared.types.Definition.{Definition}
 use Rattle.c2_new_signature.proofs.TheLaws.{accepted_paddable}
-use Rattle.c2_new_signature.specs.Message.{RefusedForOne}
+use Rattle.c2_new_signature.specs.Message.{RefusedForOne, IsMessageRead}
 use Rattle.c2_new_signature.specs.Refusals.{reserve_needed}
 use Rattle.c2_new_signature.specs.Signed.{FillsOrNeedsMore, IsSigned, NeedsMore}
 use Rattle.c2_new_file_spec.specs.Carrying.{SomeContentOver}
 use Rattle.c2_new_file_spec.specs.Laws.{FreshHasPlace, LeftHasPlace, SomeLeft}
 use Rattle.c2_new_file_spec.specs.Places.{IsFreePlace, Place, place_store}
 use Rattle.c2_build_plain.specs.Building.{IsBuilt, IsEmbeddedOn, IsPlannedOn, built_of, signed_bytes}
-use Rattle.c2_build_refusals.specs.Stages.{IsDefinitionStage, IsGroundOver, IsGroundStage, IsMediaStage, IsMessageRead, IsMessageStage, IsPlaceStage, MediaKind, fresh, fresh_ground, media_stage, stored}
+use Rattle.c2_build_refusals.specs.Stages.{IsDefinitionStage, IsGroundOver, IsGroundStage, IsMediaStage, IsMessageStage, IsPlaceStage, MediaKind, fresh, fresh_ground, media_stage, stored}
 use Rattle.c2_build_plain.specs.Meeting.{SomeEmbedding, SomePlan}
 use Rattle.c2_build_refusals.specs.Refusals.{Ground, first_refusal, ground_tests, late_tests, older_tests, redaction_tests, reserve_tests, refuse_if}
 use Rattle.c2_build_refusals.proofs.Inputs.{AreWellFormed, EachDefinition, OneOpened, read_formed, some_definition, some_message}

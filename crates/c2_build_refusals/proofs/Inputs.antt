@@ -14,9 +14,9 @@ use Rattle.c2_rules.specs.Opened.{IsOpened}
 use Rattle.c2_definition.specs.DefinitionFile.{IsDefinition, IsWellFormed, Agrees, definition_in, definition_of}
 use Rattle.c2_definition.specs.declared.types.Definition.{Definition}
 use Rattle.c2_definition.specs.declared.types.DefinitionField.{DefinitionField}
-use Rattle.c2_new_signature.specs.Message.{RefusedForOne, IsAccepted}
+use Rattle.c2_new_signature.specs.Message.{RefusedForOne, IsAccepted, IsMessageRead}
 use Rattle.c2_new_signature.specs.declared.error.SignaturePart.{SignaturePart}
-use Rattle.c2_build_refusals.specs.Stages.{IsDefinitionRefused, IsDefinitionStage, IsMediaRefused, IsMediaStage, IsMessageRead, IsMessageRefused, IsMessageStage, MediaKind, definition_stage, media_stage, message_stage}
+use Rattle.c2_build_refusals.specs.Stages.{IsDefinitionRefused, IsDefinitionStage, IsMediaRefused, IsMediaStage, IsMessageRefused, IsMessageStage, MediaKind, definition_stage, media_stage, message_stage}
 use Rattle.c2_build_refusals.proofs.Stages.{IsOne, Something}
 use Rattle.c2_build_refusals.specs.declared.error.BuildError.{BuildError}
 use Rattle.std.proofs.lemmas.Bool.{lt-ltb}

@@ -8,7 +8,7 @@ use Rattle.std.specs.declared.result.Result.TheVariants.{Ok, Err}
 use Rattle.std.specs.Option.{ForSome}
 use Rattle.c2_base.specs.Source.{IsKnownWhereDue}
 use Rattle.c2_base.specs.declared.values.Question.{Question}
-use Rattle.c2_spec.specs.C2pa.Sign1.{SignParts, SpellsMessage}
+use Rattle.c2_spec.specs.C2pa.Sign1.{SignParts}
 use Rattle.c2_spec.specs.Jumbf.Tree.{Tree}
 use Rattle.c2_spec.specs.Located.{Opening, refused, absent, here}
 use Rattle.c2_spec.specs.declared.digest.Alg.{Alg}
@@ -21,7 +21,7 @@ use Rattle.c2_rules.specs.Validated.{CheckAsks, IsFileReading}
 use Rattle.c2_definition.specs.DefinitionFile.{IsDefinition}
 use Rattle.c2_definition.specs.declared.types.Definition.{Definition}
 use Rattle.c2_definition.specs.declared.types.DefinitionField.{DefinitionField}
-use Rattle.c2_new_signature.specs.Message.{IsAccepted, IsRefused}
+use Rattle.c2_new_signature.specs.Message.{IsMessageRead}
 use Rattle.c2_new_signature.specs.declared.error.SignaturePart.{SignaturePart}
 use Rattle.c2_new_file_spec.specs.Store.{Content}
 use Rattle.c2_new_file_spec.specs.Fresh.{fresh_content}
@@ -93,11 +93,6 @@ IsDefinitionRefused file = (e : BuildError) × IsDefinitionStage file (Err e)
 -- of the texts that it holds.
 abbrev pub HasTextsIn : List ℕ → Type 0
 HasTextsIn file = (d : Definition) → IsDefinition file (Ok d) → HasTexts d
-
--- these are the parts of the signed message that bytes spell, which passes all tests; or the first test that it fails
-abbrev pub IsMessageRead : List ℕ → List ℕ → Result SignParts SignaturePart → Type 0
-IsMessageRead protected bytes (Ok p) = IsAccepted protected bytes × SpellsMessage bytes p
-IsMessageRead protected bytes (Err test) = IsRefused protected bytes test
 
 -- what a message that is read so is to a build
 abbrev pub message_stage : Result SignParts SignaturePart → Result SignParts BuildError

@@ -20,7 +20,8 @@ use Rattle.c2_rules.specs.Validated.{CheckAsks, OpenedAsks}
 use Rattle.c2_definition.specs.DefinitionFile.{IsDefinition}
 use Rattle.c2_collect_spec.specs.Asked.{OneCollectAsks, OneCollectPlanAsks, SomeCollectAsks, SomeCollectPlanAsks}
 use Rattle.c2_collect_spec.specs.Order.{CollectRefusal}
-use Rattle.c2_collect_spec.specs.Outcomes.{After, AskedBehind, AsksThen, HasCheck, IsDefinitionStage, IsMediaStage, IsMessageRead, IsMessageStage, IsOpenedOnce, IsParentStage}
+use Rattle.c2_collect_spec.specs.Outcomes.{After, AskedBehind, AsksThen, HasCheck, IsDefinitionStage, IsMediaStage, IsMessageStage, IsOpenedOnce, IsParentStage}
+use Rattle.c2_new_signature.specs.Message.{IsMessageRead}
 use Rattle.c2_collect_spec.specs.Outcomes.{PairAsks, SomeCollectMade, SomeCollectPlan, Then, definition_stage, media_stage, message_stage}
 use Rattle.c2_collect_spec.proofs.OneOutcome.{OneLaws, one_parent}
 use Rattle.c2_collect_spec.proofs.SomeOutcome.{answer_over, opened_as}

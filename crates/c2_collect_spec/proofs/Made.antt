@@ -39,7 +39,8 @@ use Rattle.c2_collect_spec.specs.Files.{collected_signed}
 use Rattle.c2_collect_spec.specs.Made.{HasTextsIn, IsAskedBy, MadeCollectedMeets, embedded_range}
 use Rattle.c2_collect_spec.specs.Order.{CanCollectPair, CollectRefusal, FilePair, IsCollectedFile, IsMediaFile, IsOtherFile, IsValidAnswer, MediaFile, OtherFile}
 use Rattle.c2_collect_spec.specs.Order.{bad_signature, pair_readings, reserve_refusals}
-use Rattle.c2_collect_spec.specs.Outcomes.{CollectGround, IsCollectMade, IsCollectPlanned, IsDefinitionStage, IsGroundStage, IsMadeOn, IsMadeOver, IsMediaStage, IsMessageRead, IsMessageStage, IsNewFile}
+use Rattle.c2_collect_spec.specs.Outcomes.{CollectGround, IsCollectMade, IsCollectPlanned, IsDefinitionStage, IsGroundStage, IsMadeOn, IsMadeOver, IsMediaStage, IsMessageStage, IsNewFile}
+use Rattle.c2_new_signature.specs.Message.{IsMessageRead}
 use Rattle.c2_collect_spec.specs.Outcomes.{IsPairStage, IsPlannedOn, IsPlannedOver, IsPutIn, NewFile, ground_refusals, ground_signed, new_file}
 use Rattle.c2_collect_spec.specs.Stores.{IsAcceptedFile}
 use Rattle.c2_collect_spec.specs.Whole.{MeetsCollected, pair_questions}

@@ -26,7 +26,7 @@ use Rattle.c2_rules.specs.declared.answer.Failing.{Failing}
 use Rattle.c2_definition.specs.DefinitionFile.{IsDefinition}
 use Rattle.c2_definition.specs.declared.types.Definition.{Definition}
 use Rattle.c2_definition.specs.declared.types.DefinitionField.{DefinitionField}
-use Rattle.c2_new_signature.specs.Message.{RefusedForOne}
+use Rattle.c2_new_signature.specs.Message.{RefusedForOne, IsMessageRead}
 use Rattle.c2_new_signature.specs.Signed.{FillsOrNeedsMore}
 use Rattle.c2_new_file_spec.specs.Manifests.{supers_in}
 use Rattle.c2_new_file_spec.specs.Store.{Content}
@@ -35,7 +35,7 @@ use Rattle.c2_new_file_spec.specs.Laws.{OneLeft, OnePlace}
 use Rattle.c2_new_file_spec.specs.Places.{Place}
 use Rattle.c2_collect_spec.specs.Collected.{CollectedContentIsOne}
 use Rattle.c2_collect_spec.specs.Order.{CollectRefusal, FilePair, IsMediaFile, IsOtherFile, MediaFile, OtherFile, joined_refusals, other_refusals, parent_refusals, reserve_refusals}
-use Rattle.c2_collect_spec.specs.Outcomes.{CollectGround, IsDefinitionStage, IsGroundStage, IsJoinedStage, IsMadeOn, IsMediaStage, IsMessageRead, IsMessageStage, IsNewFile, IsOpenedOnce}
+use Rattle.c2_collect_spec.specs.Outcomes.{CollectGround, IsDefinitionStage, IsGroundStage, IsJoinedStage, IsMadeOn, IsMediaStage, IsMessageStage, IsNewFile, IsOpenedOnce}
 use Rattle.c2_collect_spec.specs.Outcomes.{IsOtherStage, IsPutIn, IsPairStage, IsParentStage, IsPlannedOn, OneCollectMade, OneCollectPlan, Unless, ground_signed, definition_stage}
 use Rattle.c2_collect_spec.specs.Outcomes.{ground_refusals, media_stage, message_stage, new_file, pair_of}
 use Rattle.c2_collect_spec.proofs.Clashes.{one_clash}

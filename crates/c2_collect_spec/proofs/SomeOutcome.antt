@@ -36,7 +36,8 @@ use Rattle.c2_new_file_spec.specs.Laws.{SomeLeft}
 use Rattle.c2_new_file_spec.specs.Places.{HasRoom, IsFreePlace, Place, place_store}
 use Rattle.c2_collect_spec.specs.Order.{CollectRefusal, FilePair, IsFilePair, IsMediaFile, IsOtherFile, IsValidAnswer, MediaFile, OtherFile}
 use Rattle.c2_collect_spec.specs.Order.{bad_definition, bad_signature, joined_refusals, media_refused, other_refusals, pair_readings, pair_refusals, parent_refusals, reserve_refusals, reserve_too_small}
-use Rattle.c2_collect_spec.specs.Outcomes.{CollectGround, HasCheck, IsDefinitionStage, IsGroundStage, IsJoinedStage, IsMadeOn, IsMadeOver, IsMediaStage, IsMessageRead, IsMessageStage}
+use Rattle.c2_collect_spec.specs.Outcomes.{CollectGround, HasCheck, IsDefinitionStage, IsGroundStage, IsJoinedStage, IsMadeOn, IsMadeOver, IsMediaStage, IsMessageStage}
+use Rattle.c2_new_signature.specs.Message.{IsMessageRead}
 use Rattle.c2_collect_spec.specs.Outcomes.{IsNewFile, IsOtherStage, IsPairStage, IsParentStage, IsPlannedOn, IsPlannedOver, SomeCollectMade, SomeCollectPlan, ground_signed}
 use Rattle.c2_collect_spec.specs.Outcomes.{definition_stage, ground_refusals, media_stage, message_stage, new_file, pair_of}
 use Rattle.c2_collect_spec.proofs.Clashes.{some_clash}

@@ -12,7 +12,8 @@ use Rattle.c2_definition.specs.declared.types.Definition.{Definition}
 use Rattle.c2_collect_spec.specs.Made.{IsCollectPlanUnrefused, IsCollectUnrefused, UnrefusedIsCollectMade, UnrefusedIsCollectPlanned}
 use Rattle.c2_collect_spec.specs.Order.{FilePair, IsFilePair, MediaFile, OtherFile}
 use Rattle.c2_collect_spec.specs.Order.{bad_definition, bad_signature, joined_refusals, media_refused, other_refusals, parent_refusals, reserve_refusals}
-use Rattle.c2_collect_spec.specs.Outcomes.{CollectGround, IsCollectMade, IsCollectPlanned, IsDefinitionStage, IsGroundStage, IsJoinedStage, IsMadeOn, IsMadeOver, IsMediaStage, IsMessageRead}
+use Rattle.c2_collect_spec.specs.Outcomes.{CollectGround, IsCollectMade, IsCollectPlanned, IsDefinitionStage, IsGroundStage, IsJoinedStage, IsMadeOn, IsMadeOver, IsMediaStage}
+use Rattle.c2_new_signature.specs.Message.{IsMessageRead}
 use Rattle.c2_collect_spec.specs.Outcomes.{IsMessageStage, IsNewFile, IsOtherStage, IsPairStage, IsParentStage, IsPlannedOn, IsPlannedOver, SomeCollectMade, SomeCollectPlan}
 use Rattle.c2_collect_spec.specs.Outcomes.{ground_refusals, ground_signed, pair_of}
 use Rattle.c2_collect_spec.proofs.Order.{none_both}

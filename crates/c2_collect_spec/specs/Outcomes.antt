@@ -7,7 +7,7 @@ use Rattle.std.specs.declared.option.Option.TheVariants.{Some}
 use Rattle.std.specs.declared.result.Result.{Result}
 use Rattle.std.specs.declared.result.Result.TheVariants.{Ok, Err}
 use Rattle.c2_base.specs.declared.values.Question.{Question}
-use Rattle.c2_spec.specs.C2pa.Sign1.{SignParts, SpellsMessage}
+use Rattle.c2_spec.specs.C2pa.Sign1.{SignParts}
 use Rattle.c2_spec.specs.Jumbf.Tree.{Tree, tree_bytes}
 use Rattle.c2_spec.specs.Located.{Opening, absent, here, refused}
 use Rattle.c2_spec.specs.declared.digest.Alg.{Alg}
@@ -20,7 +20,7 @@ use Rattle.c2_rules.specs.declared.answer.Answer.{Answer}
 use Rattle.c2_definition.specs.DefinitionFile.{IsDefinition}
 use Rattle.c2_definition.specs.declared.types.Definition.{Definition}
 use Rattle.c2_definition.specs.declared.types.DefinitionField.{DefinitionField}
-use Rattle.c2_new_signature.specs.Message.{IsAccepted, IsRefused}
+use Rattle.c2_new_signature.specs.Message.{IsMessageRead}
 use Rattle.c2_new_signature.specs.Signed.{IsSigned}
 use Rattle.c2_new_signature.specs.declared.error.SignaturePart.{SignaturePart}
 use Rattle.c2_new_file_spec.specs.Manifests.{supers_in}
@@ -70,11 +70,6 @@ definition_stage (Err field) = Err (bad_definition field)
 -- this is the definition that a file is, or what of it is refused first
 abbrev pub IsDefinitionStage : List ℕ → Result Definition CollectRefusal → Type 0
 IsDefinitionStage file r = (d : Result Definition DefinitionField) × IsDefinition file d × (r ≡ definition_stage d)
-
--- these are the parts of the signed message that bytes spell, which passes all tests; or the first test that it fails
-abbrev pub IsMessageRead : List ℕ → List ℕ → Result SignParts SignaturePart → Type 0
-IsMessageRead protected bytes (Ok p) = IsAccepted protected bytes × SpellsMessage bytes p
-IsMessageRead protected bytes (Err test) = IsRefused protected bytes test
 
 -- what a message that is read so is to a build
 abbrev pub message_stage : Result SignParts SignaturePart → Result SignParts CollectRefusal

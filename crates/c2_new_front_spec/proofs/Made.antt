@@ -41,7 +41,8 @@ use Rattle.c2_new_front_spec.specs.Fronts.{CanBuildFront, IsFrontBuilt, front_co
 use Rattle.c2_new_front_spec.specs.Made.{BytesAreThere, ChunksAreThere, ChunksAreThereOrRefused, FrontMeets, HasTextsIn, MadeFrontMeets}
 use Rattle.c2_new_front_spec.specs.Meeting.{front_question}
 use Rattle.c2_new_front_spec.specs.Order.{CanPlanFront, FrontRefusal, bad_definition, bad_signature, bmff_refusals, front_refusals, plan_refusals, reserve_refusals}
-use Rattle.c2_new_front_spec.specs.Outcomes.{IsDefinitionStage, IsBmffStage, IsFrontMade, IsFrontPlanned, IsMediaStage, IsMessageRead, IsMessageStage, IsNewFile, IsPlannedIn, IsPlannedOver, NewFile, SomeFrontMade, front_signed, new_file}
+use Rattle.c2_new_front_spec.specs.Outcomes.{IsDefinitionStage, IsBmffStage, IsFrontMade, IsFrontPlanned, IsMediaStage, IsMessageStage, IsNewFile, IsPlannedIn, IsPlannedOver, NewFile, SomeFrontMade, front_signed, new_file}
+use Rattle.c2_new_signature.specs.Message.{IsMessageRead}
 use Rattle.c2_new_front_spec.proofs.Shifts.{both_none}
 use Rattle.c2_new_front_spec.proofs.SomeOutcome.{FreeRoots, free_roots}
 use Rattle.c2_new_front_spec.proofs.Stages.{passed, then_next, unless_passed, unless_passes}

@@ -15,7 +15,8 @@ use Rattle.c2_definition.specs.DefinitionFile.{IsDefinition}
 use Rattle.c2_definition.specs.declared.types.Definition.{Definition}
 use Rattle.c2_new_signature.specs.Signed.{FillsOrNeedsMore}
 use Rattle.c2_new_front_spec.specs.Order.{bmff_refusals, front_refusals, plan_refusals}
-use Rattle.c2_new_front_spec.specs.Outcomes.{IsDefinitionStage, IsBmffStage, IsMadeIn, IsMadeOver, IsMediaStage, IsMessageRead, IsMessageStage, IsNewFile, IsPlannedIn, IsPlannedOver}
+use Rattle.c2_new_front_spec.specs.Outcomes.{IsDefinitionStage, IsBmffStage, IsMadeIn, IsMadeOver, IsMediaStage, IsMessageStage, IsNewFile, IsPlannedIn, IsPlannedOver}
+use Rattle.c2_new_signature.specs.Message.{IsMessageRead}
 use Rattle.c2_new_front_spec.specs.Outcomes.{OneFrontMade, OneFrontPlan, definition_stage, front_signed, media_stage, message_stage, new_file}
 use Rattle.c2_new_front_spec.proofs.Stages.{IsOne, one_then, one_unless, one_value}
 

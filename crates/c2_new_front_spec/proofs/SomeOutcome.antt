@@ -22,7 +22,8 @@ use Rattle.c2_new_signature.specs.Refusals.{reserve_needed}
 use Rattle.c2_new_signature.specs.Signed.{FillsOrNeedsMore, IsSigned, NeedsMore}
 use Rattle.c2_new_file_spec.specs.Films.{AreOthers}
 use Rattle.c2_new_front_spec.specs.Order.{FrontRefusal, bad_definition, bad_signature, bmff_refusals, front_refusals, not_bmff, plan_refusals, reserve_refusals, reserve_too_small, store_refusals}
-use Rattle.c2_new_front_spec.specs.Outcomes.{IsDefinitionStage, IsBmffStage, IsMadeIn, IsMadeOver, IsMediaStage, IsMessageRead, IsMessageStage, IsNewFile, IsPlannedIn, IsPlannedOver}
+use Rattle.c2_new_front_spec.specs.Outcomes.{IsDefinitionStage, IsBmffStage, IsMadeIn, IsMadeOver, IsMediaStage, IsMessageStage, IsNewFile, IsPlannedIn, IsPlannedOver}
+use Rattle.c2_new_signature.specs.Message.{IsMessageRead}
 use Rattle.c2_new_front_spec.specs.Outcomes.{SomeFrontMade, SomeFrontPlan, definition_stage, front_signed, media_stage, message_stage, new_file}
 use Rattle.c2_new_front_spec.proofs.Shifts.{both_none}
 use Rattle.c2_new_front_spec.proofs.Stages.{Something, some_then, some_unless}

@@ -9,7 +9,8 @@ use Rattle.c2_rules.specs.Opened.{IsOpened}
 use Rattle.c2_definition.specs.DefinitionFile.{IsDefinition}
 use Rattle.c2_new_front_spec.specs.Made.{IsFrontUnrefused, IsPlanUnrefused, UnrefusedIsMade, UnrefusedIsPlanned}
 use Rattle.c2_new_front_spec.specs.Order.{bad_definition, bad_signature, bmff_refusals, front_refusals, media_refused, plan_refusals, reserve_refusals}
-use Rattle.c2_new_front_spec.specs.Outcomes.{IsDefinitionStage, IsBmffStage, IsFrontMade, IsFrontPlanned, IsMadeIn, IsMadeOver, IsMediaStage, IsMessageRead, IsMessageStage, IsNewFile, IsPlannedIn, IsPlannedOver}
+use Rattle.c2_new_front_spec.specs.Outcomes.{IsDefinitionStage, IsBmffStage, IsFrontMade, IsFrontPlanned, IsMadeIn, IsMadeOver, IsMediaStage, IsMessageStage, IsNewFile, IsPlannedIn, IsPlannedOver}
+use Rattle.c2_new_signature.specs.Message.{IsMessageRead}
 use Rattle.c2_new_front_spec.specs.Outcomes.{SomeFrontMade, SomeFrontPlan, front_signed}
 use Rattle.c2_lemmas.proofs.Stages.{stage_never, stage_value}
 use Rattle.c2_spec.proofs.Openings.{opening_never, opening_value}

@@ -4,7 +4,7 @@ use Rattle.std.specs.Prelude.{◌≡◌, ℕ, ◌^◌, ◌<◌, List, [], ◌∷
 use Rattle.std.specs.declared.result.Result.{Result}
 use Rattle.std.specs.declared.result.Result.TheVariants.{Ok, Err}
 use Rattle.c2_spec.specs.Bmff.Boxes.{Box, HasRoots}
-use Rattle.c2_spec.specs.C2pa.Sign1.{SignParts, SpellsMessage, sig_structure}
+use Rattle.c2_spec.specs.C2pa.Sign1.{SignParts, sig_structure}
 use Rattle.c2_spec.specs.Cbor.Deterministic.{deterministic}
 use Rattle.c2_spec.specs.Jumbf.Tree.{Tree}
 use Rattle.c2_spec.specs.Located.{Opening, refused, absent, here}
@@ -13,7 +13,7 @@ use Rattle.c2_rules.specs.Opened.{IsOpened}
 use Rattle.c2_definition.specs.DefinitionFile.{IsDefinition}
 use Rattle.c2_definition.specs.declared.types.Definition.{Definition}
 use Rattle.c2_definition.specs.declared.types.DefinitionField.{DefinitionField}
-use Rattle.c2_new_signature.specs.Message.{IsAccepted, IsRefused}
+use Rattle.c2_new_signature.specs.Message.{IsMessageRead}
 use Rattle.c2_new_signature.specs.Signed.{IsSigned}
 use Rattle.c2_new_signature.specs.declared.error.SignaturePart.{SignaturePart}
 use Rattle.c2_new_file_spec.specs.Fresh.{fresh_content}
@@ -61,11 +61,6 @@ definition_stage (Err field) = Err (bad_definition field)
 -- this is the definition that a file is, or what of it is refused first
 abbrev pub IsDefinitionStage : List ℕ → Result Definition FrontRefusal → Type 0
 IsDefinitionStage file r = (d : Result Definition DefinitionField) × IsDefinition file d × (r ≡ definition_stage d)
-
--- these are the parts of the signed message that bytes spell, which passes all tests; or the first test that it fails
-abbrev pub IsMessageRead : List ℕ → List ℕ → Result SignParts SignaturePart → Type 0
-IsMessageRead protected bytes (Ok p) = IsAccepted protected bytes × SpellsMessage bytes p
-IsMessageRead protected bytes (Err test) = IsRefused protected bytes test
 
 -- what a message that is read so is to a build
 abbrev pub message_stage : Result SignParts SignaturePart → Result SignParts FrontRefusal

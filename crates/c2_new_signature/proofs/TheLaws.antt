@@ -3,7 +3,7 @@ use Rattle.c2_cbor_spec.proofs.TheLaws.{each_list_is_an_item_or_not_one, each_li
 use Rattle.c2_new_signature.proofs.Decided.{MessageLaws, accepted_or_refused}
 use Rattle.c2_new_signature.proofs.SignedLaws.{either_way, not_both, one_signed}
 use Rattle.c2_new_signature.proofs.Tests.{none_first, one_first, wanted_parts}
-use Rattle.c2_new_signature.specs.Message.{AcceptedAreWanted, IsAccepted, IsRefused, IsWanted, Passes, RefusedForOne, message_tests}
+use Rattle.c2_new_signature.specs.Message.{AcceptedAreWanted, IsAccepted, IsRefused, IsWanted, Passes, RefusedForOne, message_tests, IsMessageRead}
 use Rattle.c2_new_signature.specs.Signed.{FillsOrNeedsMore, IsPaddable}
 use Rattle.c2_new_signature.specs.declared.error.SignaturePart.{SignaturePart}
 use Rattle.c2_pad.proofs.TheLaws.{fills_are_exact}
@@ -12,7 +12,7 @@ use Rattle.c2_sigstruct.proofs.TheLaws.{each_item_is_a_message_or_not, padded_me
 use Rattle.c2_cbor_spec.proofs.PlainBack.{one_item}
 use Rattle.c2_spec.proofs.OneMessage.{same_message}
 use Rattle.c2_spec.specs.C2pa.Sign1.{SignParts, SpellsMessage}
-use Rattle.std.proofs.Common.{All, Err, List, MatchResult, Ok, Result, ap, inl, inr, ℕ, ◌<◌, ◌^◌, ◌≡◌, ◌≤◌, ◌⊎◌}
+use Rattle.std.proofs.Common.{All, Err, List, Ok, Result, ap, inl, inr, ℕ, ◌<◌, ◌^◌, ◌≡◌, ◌≤◌, ◌⊎◌}
 
 -- a list of bytes is accepted as a message, or is refused for one test, and never both
 pub each_message_is_accepted_or_refused_for_one_test : RefusedForOne
@@ -43,8 +43,8 @@ a_message_fills_its_reserve_or_needs_more = record {
 
 -- a message is read as one thing: as its parts, where it is accepted, or as the test for which it is refused
 pub one_message_read : RefusedForOne → (protected bytes : List ℕ) (m n : Result SignParts SignaturePart)
-    → MatchResult m (λ p. IsAccepted protected bytes × SpellsMessage bytes p) (IsRefused protected bytes)
-    → MatchResult n (λ p. IsAccepted protected bytes × SpellsMessage bytes p) (IsRefused protected bytes) → m ≡ n
+    → IsMessageRead protected bytes m
+    → IsMessageRead protected bytes n → m ≡ n
 one_message_read law protected bytes (Ok p) (Ok q) h k =
     ap (λ (x : SignParts). Ok x) (same_message one_item bytes p q h.1 k.1)
 one_message_read law protected bytes (Ok p) (Err t) h k = absurd (law.none protected bytes t k h.0)
@@ -55,12 +55,12 @@ one_message_read law protected bytes (Err t) (Err u) h k =
 -- each message is read as something
 pub some_message_read : RefusedForOne → (protected bytes : List ℕ) → All (λ b. b < 2 ^ 8) bytes
     → (m : Result SignParts SignaturePart)
-    × MatchResult m (λ p. IsAccepted protected bytes × SpellsMessage bytes p) (IsRefused protected bytes)
+    × IsMessageRead protected bytes m
 some_message_read law protected bytes are = by (law.either protected bytes are)
   where
     by : IsAccepted protected bytes ⊎ ((test : SignaturePart) × IsRefused protected bytes test)
         → (m : Result SignParts SignaturePart)
-        × MatchResult m (λ p. IsAccepted protected bytes × SpellsMessage bytes p) (IsRefused protected bytes)
+        × IsMessageRead protected bytes m
     by (inl a) = let form = a.1.0 in (Ok form.0, (a, form.1))
     by (inr r) = (Err r.0, r.1)
 

@@ -2,6 +2,8 @@
 -- tests in their order. Which they are is this project's own choice.
 use Rattle.std.specs.Prelude.{◌≡◌, ◌⊎◌, ℕ, ◌^◌, ◌<◌, ◌≤◌, List, [], ◌∷◌, length, All, codes, ⊤}
 use Rattle.std.specs.List.{AllByRecursion}
+use Rattle.std.specs.declared.result.Result.{Result}
+use Rattle.std.specs.declared.result.Result.TheVariants.{Ok, Err}
 use Rattle.c2_base.specs.declared.limits.TheConstants.{MAX_INPUT_LEN, MAX_HEADER_ENTRIES}
 use Rattle.c2_spec.specs.C2pa.Message.{CanBePadded, HasNoText, IsPlainMessage}
 use Rattle.c2_spec.specs.C2pa.Sign1.{SignParts, SpellsMessage}
@@ -60,6 +62,11 @@ IsRefused protected bytes test = IsFirstFailing (Passes protected bytes) message
 -- the message passes all tests
 abbrev pub IsAccepted : List ℕ → List ℕ → Type 0
 IsAccepted protected bytes = AllByRecursion (Passes protected bytes) message_tests
+
+-- these are the parts of the signed message that bytes spell, which passes all tests; or the first test that it fails
+abbrev pub IsMessageRead : List ℕ → List ℕ → Result SignParts SignaturePart → Type 0
+IsMessageRead protected bytes (Ok p) = IsAccepted protected bytes × SpellsMessage bytes p
+IsMessageRead protected bytes (Err test) = IsRefused protected bytes test
 
 -- A list of bytes is accepted, or is refused for one test, and never both.
 pub record RefusedForOne : Type 0 where
