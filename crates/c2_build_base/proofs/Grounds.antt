@@ -2,6 +2,7 @@
 use Rattle.c2_opening.proofs.TheLaws.{one_opening_file}
 use Rattle.std.proofs.Common.{◌≡◌, ℕ, ◌+◌, Bool, true, false, List, [], ◌∷◌, ◌++◌, length, Option, Some, None, refl, sym, ap, ◌∙◌, subst}
 use Rattle.std.specs.Prelude.{Result, Ok, Err, IfErr, IfOk, option_map}
+use Rattle.c2_lemmas.proofs.Stages.{unless_some_fails, unless_some_passes}
 use Rattle.c2_base.specs.declared.values.Question.{Question}
 use Rattle.c2_spec.specs.C2pa.Manifest.{manifests_of}
 use Rattle.c2_spec.specs.Jumbf.Tree.{Tree, Trees, trees_bytes}
@@ -25,7 +26,7 @@ use Rattle.c2_new_file_spec.specs.Store.{Content, NamedManifest, NewIngredient, 
 use Rattle.c2_new_file_spec.proofs.Ingredients.{no_ingredients, parent_alone}
 use Rattle.c2_layout.specs.Parts.{IsContent}
 use Rattle.c2_layout.specs.declared.carried.Carried.{Carried}
-use Rattle.c2_new_file_spec.specs.Carrying.{SomeContentOver}
+use Rattle.c2_new_file_spec.proofs.ParentLaws.{a_valid_store_is_carried_some}
 use Rattle.c2_new_file_spec.specs.Parents.{IsParentOf}
 use Rattle.c2_new_file_spec.specs.Redacting.{boxes_in, redacted_boxes}
 use Rattle.c2_new_file_spec.specs.Refusing.{has_manifest, redaction_refusal}
@@ -40,7 +41,7 @@ use Rattle.c2_build_base.specs.Grounds.{IsCarriedOver, IsChecked, IsCheckRefusal
 use Rattle.c2_build_refusals.specs.declared.error.BuildError.{BuildError}
 use Rattle.c2_build_refusals.specs.declared.error.BuildError.TheVariants as build
 use Rattle.c2_build_refusals.specs.declared.types.BuildBase.{BuildBase}
-use Rattle.c2_build_refusals.proofs.Stages.{first_fails, first_passes, unless_fails, unless_passes}
+use Rattle.c2_build_refusals.proofs.Stages.{first_fails, first_passes}
 use Rattle.c2_build_refusals.proofs.Passing.{is_passable, opened_here, stands_over}
 use Rattle.c2_build_refusals.proofs.Outside.{outside_map}
 use Rattle.std.specs.Option.{option_to_list}
@@ -72,7 +73,7 @@ is_refusal d rs r e =
 pub fresh_passed : (hash : Alg → List ℕ → List ℕ) (said : Question → Verdict) (media : List ℕ) (d : Definition)
     → redaction_refusal d.label [] d.redact ≡ None → IsGroundStage hash said media d fresh (Ok (fresh_ground media d))
 fresh_passed hash said media d e =
-    unless_passes (first_refusal (redaction_tests d [])) (λ r. r ≡ Ok (fresh_ground media d))
+    unless_some_passes (first_refusal (redaction_tests d [])) (λ r. r ≡ Ok (fresh_ground media d))
     (Ok (fresh_ground media d)) (no_refusal d [] e) refl
 
 -- a media file without a store is refused where a redaction is
@@ -81,7 +82,7 @@ pub fresh_refused :
     → redaction_refusal d.label [] d.redact ≡ Some r
     → IsGroundStage hash said media d fresh (Err (build.RedactionRefused r.text r.code))
 fresh_refused hash said media d r e =
-    unless_fails (first_refusal (redaction_tests d [])) (λ x. x ≡ Ok (fresh_ground media d))
+    unless_some_fails (first_refusal (redaction_tests d [])) (λ x. x ≡ Ok (fresh_ground media d))
     (build.RedactionRefused r.text r.code) (is_refusal d [] r e)
 
 -- what is kept of a definition alone
@@ -177,7 +178,7 @@ failed_stage hash said media d start len t f opened is =
     ap (λ (o : Option Failing). first_refusal (parent_tests o)) fails in (
       s,
       a.1,
-      unless_fails (first_refusal (older_tests d s.readings (first_failing (check_list hash said s)))) (IsGroundOver media d start len t s.readings) (build.ParentFails f.code f.uri)
+      unless_some_fails (first_refusal (older_tests d s.readings (first_failing (check_list hash said s)))) (IsGroundOver media d start len t s.readings) (build.ParentFails f.code f.uri)
           (first_fails (parent_tests (first_failing (check_list hash said s))) (label_tests d s.readings ++ redaction_tests d s.readings) (build.ParentFails f.code f.uri) first),
     )
   where
@@ -209,17 +210,18 @@ over_stage hash said media d start len t e p h =
     outside_map e (λ first. (
       s,
       p.reads,
-      unless_fails (first_refusal (older_tests d s.readings (first_failing (check_list hash said s)))) (IsGroundOver media d start len t s.readings) e
+      unless_some_fails (first_refusal (older_tests d s.readings (first_failing (check_list hash said s)))) (IsGroundOver media d start len t s.readings) e
           (first_passes (parent_tests (first_failing (check_list hash said s))) (label_tests d s.readings ++ redaction_tests d s.readings) (Some e) none first),
     )) h
 
 -- where none does, it is built over what is left of the media
-pub over_ground : SomeContentOver
-    → (hash : Alg → List ℕ → List ℕ) (said : Question → Verdict) (media : List ℕ) (d : Definition) (start len : ℕ) (t : Tree) (clearing : Clearing) (k : BuildBase) (p : IsPast hash said media t) →
+pub over_ground :
+    (hash : Alg → List ℕ → List ℕ) (said : Question → Verdict) (media : List ℕ) (d : Definition) (start len : ℕ)
+    (t : Tree) (clearing : Clearing) (k : BuildBase) (p : IsPast hash said media t) →
     IsMediaStage media (Ok (stored start len t)) → IsLeft media start len (cleared clearing media)
     → IsOver (hash (new_alg d)) d t clearing p.reading.readings k
     → (g : Ground) × IsGroundStage hash said media d (stored start len t) (Ok g) × IsGround (hash (new_alg d)) media d k g
-over_ground law hash said media d start len t clearing k p m left h =
+over_ground hash said media d start len t clearing k p m left h =
     let s : StoreReading = p.reading in
     let rs : List Reading = s.readings in
     let label : first_refusal (label_tests d rs) ≡ None =
@@ -229,13 +231,13 @@ over_ground law hash said media d start len t clearing k p m left h =
     let none : first_refusal (older_tests d rs (first_failing (check_list hash said s))) ≡ None =
     first_passes (parent_tests (first_failing (check_list hash said s))) (label_tests d rs ++ redaction_tests d rs) None first (first_passes (label_tests d rs) (redaction_tests d rs) None label (no_refusal d rs h.redactions)) in
     let content =
-    law hash said d t s
+    a_valid_store_is_carried_some hash said d t s
     (stands_over hash said media d start len t s (opened_here media start len t m) p.reads (is_passable hash said d s none)) in
     let c : Content = content.0 in
     let g : Ground = record { base = cleared clearing media; content = c; manifests = length rs + 1 } in
     let same : c ≡ h.carried.content = h.carried.only c content.1 in (
       g,
-      (s, p.reads, unless_passes (first_refusal (older_tests d rs (first_failing (check_list hash said s)))) (IsGroundOver media d start len t rs) (Ok g) none (c, content.1, (cleared clearing media, left, refl))),
+      (s, p.reads, unless_some_passes (first_refusal (older_tests d rs (first_failing (check_list hash said s)))) (IsGroundOver media d start len t rs) (Ok g) none (c, content.1, (cleared clearing media, left, refl))),
       record {
         base = ap (λ (x : Clearing). cleared x media) (sym h.clears);
         content = subst (IsContent (hash (new_alg d)) d k.carried) (sym same) h.carried.is;
@@ -244,17 +246,18 @@ over_ground law hash said media d start len t clearing k p m left h =
     )
 
 -- what is built over a file with this store, by what its tests behind the check answered
-pub stored_over : SomeContentOver
-    → (hash : Alg → List ℕ → List ℕ) (said : Question → Verdict) (media : List ℕ) (d : Definition) (start len : ℕ) (t : Tree) (clearing : Clearing)
+pub stored_over :
+    (hash : Alg → List ℕ → List ℕ) (said : Question → Verdict) (media : List ℕ) (d : Definition) (start len : ℕ)
+    (t : Tree) (clearing : Clearing)
     → IsMediaStage media (Ok (stored start len t)) → IsLeft media start len (cleared clearing media)
     → IsChecked hash said media → (r : Result BuildBase BuildError)
     → ((rs : List Reading) → AreReadings (manifests_of t) rs → IfOk r (IsOver (hash (new_alg d)) d t clearing rs))
     → ((rs : List Reading) → AreReadings (manifests_of t) rs → IfErr r (IsOverRefusal d rs))
     → ComesAs (IsGround (hash (new_alg d)) media d) (IsGroundStage hash said media d (stored start len t)) r
-stored_over law hash said media d start len t clearing m left checked (Ok k) over bad =
+stored_over hash said media d start len t clearing m left checked (Ok k) over bad =
     let p = is_past hash said media start len t (opened_here media start len t m) checked in
-    over_ground law hash said media d start len t clearing k p m left (over p.reading.readings p.reads.reads.each)
-stored_over law hash said media d start len t clearing m left checked (Err e) over bad =
+    over_ground hash said media d start len t clearing k p m left (over p.reading.readings p.reads.reads.each)
+stored_over hash said media d start len t clearing m left checked (Err e) over bad =
     let p = is_past hash said media start len t (opened_here media start len t m) checked in
     over_stage hash said media d start len t e p (bad p.reading.readings p.reads.reads.each)
 

@@ -1,4 +1,5 @@
 -- What is drafted over two files: a place in what is left of the media, and the tests on the numbers there.
+use Rattle.c2_collect_spec.proofs.TheLaws.{the_length_of_a_collected_store_fits_fits}
 use Rattle.std.proofs.Common.{◌≡◌, inr, ℕ, ◌+◌, ◌-◌, ◌^◌, ◌<◌, List, [], length, None, refl, sym, ap, subst}
 use Rattle.std.specs.Prelude.{Err, IfErr, IfOk, Ok, Result}
 use Rattle.c2_base.specs.declared.values.Question.{Question}
@@ -10,7 +11,6 @@ use Rattle.c2_rules.specs.Opened.{IsOpened}
 use Rattle.c2_new_file_spec.specs.Store.{new_alg}
 use Rattle.c2_definition.specs.declared.types.Definition.{Definition}
 use Rattle.c2_new_file_spec.specs.Places.{Place, in_boxes, in_segments, store_len}
-use Rattle.c2_collect_spec.specs.Lengths.{CollectedStoresFit}
 use Rattle.c2_collect_spec.specs.Order.{FilePair, pair_readings}
 use Rattle.c2_collect_spec.specs.Outcomes.{CollectGround, IsPairStage}
 use Rattle.c2_collect_spec.specs.Outcomes as collect
@@ -48,14 +48,15 @@ module _ (hash : Alg → List ℕ → List ℕ) (said : Question → Verdict) (m
   room_is = ap (λ (x : Definition). x.reserve) (sym is.is.definition)
 
   -- 64 bits hold the length of the new store, where a file is the definition
-  pub over_len : CollectedStoresFit → IsOfFile d → (s : InsertPoint) → HasLen s is.content
-  over_len law of_file s = by s
+  pub over_len : IsOfFile d → (s : InsertPoint) → HasLen s is.content
+  over_len of_file s = by s
     where
       fits : (place : Place) → store_len place is.content is.content.definition.reserve < 2 ^ 64 - 1
       fits place =
           let read = (pair_passed hash said media other what d p stage pair).is_pair in
           subst (λ (n : ℕ). store_len place is.content n < 2 ^ 64 - 1) room_is
-          (law hash said media of_file.0 other d p is.content place of_file.1 read is.collects)
+          (the_length_of_a_collected_store_fits_fits hash said media of_file.0 other d p is.content place of_file.1 read
+          is.collects)
 
       by : (x : InsertPoint) → HasLen x is.content
       by (InsertPoint.Segments start number) = fits (in_segments [] None)

@@ -1,6 +1,9 @@
 -- What is answered, and what is written, once a new file is ready or isn't.
+use Rattle.c2_opening.proofs.TheLaws.{one_opening_file}
+use Rattle.c2_collect_spec.proofs.TheLaws.{a_collected_build_comes_to_one_thing_made}
 use Rattle.std.proofs.Common.{◌≡◌, ℕ, Bool, List, Option, Some, refl, sym, ap, ◌∙◌, subst}
 use Rattle.std.specs.Prelude.{Result, Ok, Err}
+use Rattle.c2_lemmas.proofs.Stages.{passed}
 use Rattle.c2_base.specs.declared.values.Question.{Question}
 use Rattle.c2_spec.specs.Jumbf.Tree.{Tree}
 use Rattle.c2_spec.specs.Located.{Opening, refused, absent, here}
@@ -14,7 +17,6 @@ use Rattle.c2_build_writing.specs.Puts.{copy_fault_of}
 use Rattle.c2_collect_spec.specs.Order.{CollectRefusal}
 use Rattle.c2_collect_spec.specs.Outcomes.{IsCollectMade, NewFile}
 use Rattle.c2_collect_spec.specs.Outcomes as collect
-use Rattle.c2_collect_spec.proofs.Stages.{passed}
 use Rattle.c2_build_refusals.specs.Stages.{IsDefinitionTold, IsMediaStage, MediaKind, fresh, stored}
 use Rattle.c2_build_refusals.specs.declared.error.BuildError.{BuildError}
 use Rattle.c2_build_refusals.specs.declared.types.Embedded.{Embedded}
@@ -40,17 +42,25 @@ same_file : (Is : Result NewFile CollectRefusal → Type 0)
 same_file Is one media r b bytes is ready w = sym ready.file ∙ ap file_of (one (Ok b) w.0 is w.1) ∙ sym w.2
 
 -- what is written where the new file was begun is the new file, or a prefix of it
-pub broken_off : {K : Type 0} (written : K → Option (List ℕ)) (spare : K → Option ℕ) (finished : K → Bool) (hash : Alg → List ℕ → List ℕ) (said : Question → Verdict) (media definition message other : List ℕ)
-    → ((x y : Result NewFile CollectRefusal) → IsCollectMade hash said media definition message other x → IsCollectMade hash said media definition message other y → x ≡ y)
-    → (r : Ready) (b : NewFile) (old new : K) (e : CopyError) (f : BuildError) → f ≡ copy_fault_of e
+pub broken_off :
+    {K : Type 0} (written : K → Option (List ℕ)) (spare : K → Option ℕ) (finished : K → Bool)
+    (hash : Alg → List ℕ → List ℕ) (said : Question → Verdict) (media definition message other : List ℕ) (r : Ready)
+    (b : NewFile) (old new : K) (e : CopyError) (f : BuildError)
+    → f ≡ copy_fault_of e
     → IsCollectMade hash said media definition message other (Ok b) → IsReady media r b
     → Breaks written spare finished (ready_file r media) old new (ending_of e)
     → EmbedsCollected written spare finished hash said media definition message other old new (Err f)
-broken_off {K} written spare finished hash said media definition message other one r b old new e f same is ready h =
+broken_off {K} written spare finished hash said media definition message other r b old new e f same is ready h =
     subst
     (λ (x : BuildError). EmbedsCollected written spare finished hash said media definition message other old new (Err x))
     (sym same) (by e h)
   where
+    one : (x y : Result NewFile CollectRefusal) → IsCollectMade hash said media definition message other x
+        → IsCollectMade hash said media definition message other y → x ≡ y
+    one x y p q =
+        a_collected_build_comes_to_one_thing_made hash said media definition message other x y (one_opening_file media)
+        (one_opening_file other) p q
+
     wrote : (c : CopyError) → Breaks written spare finished (ready_file r media) old new (ending_of c)
         → WritesFile written spare finished (Writes (IsCollectMade hash said media definition message other)) old new (ending_of c)
     wrote c k =

@@ -3,6 +3,7 @@ use Rattle.std.proofs.Common.{◌≡◌, ℕ, List, Option, subst, sym}
 use Rattle.std.specs.Prelude.{Err, IfErr, IfOk, Ok, Result}
 use Rattle.std.specs.declared.alloc.Global.{Global}
 use Rattle.std.specs.declared.vec.Vec.{Vec}
+use Rattle.c2_lemmas.specs.Stages.{Then}
 use Rattle.c2_base.specs.Source.{ReadsSource}
 use Rattle.c2_base.specs.declared.values.Question.{Question}
 use Rattle.c2_spec.specs.C2pa.Sign1.{SignParts}
@@ -13,10 +14,10 @@ use Rattle.c2_spec.specs.declared.panel.Verdict.{Verdict}
 use Rattle.c2_rules.specs.Asking.{HearsPanel}
 use Rattle.c2_definition.specs.DefinitionFile.{IsWellFormed}
 use Rattle.c2_definition.specs.declared.types.Definition.{Definition}
-use Rattle.c2_new_signature.specs.Signed.{FillsOrNeedsMore, IsSigned}
+use Rattle.c2_new_signature.specs.Signed.{IsSigned}
 use Rattle.c2_new_file_spec.specs.Store.{new_alg}
 use Rattle.c2_without_store.specs.Clears.{cleared_len}
-use Rattle.c2_collect_spec.specs.Outcomes.{IsMadeOver, IsPairStage, Then}
+use Rattle.c2_collect_spec.specs.Outcomes.{IsMadeOver, IsPairStage}
 use Rattle.c2_build_refusals.specs.Kinds.{WithoutFault, build_heard}
 use Rattle.c2_build_refusals.specs.Refusals.{IsReserveRefusal}
 use Rattle.c2_build_refusals.specs.declared.error.BuildError.{BuildError}
@@ -35,16 +36,17 @@ use Rattle.c2_build_collect.proofs.Planned.{draft_makes, reserve_refused}
 -- ---- what was drafted, with a message
 
 -- what was drafted makes the new file with the message that fills what is reserved, or the message doesn't fit
-pub draft_filled : (hash : Alg → List ℕ → List ℕ) (said : Question → Verdict) (media other : List ℕ) (what : Opening Tree) (d : Definition) → FillsOrNeedsMore
-    → (parts : SignParts) (w : Drafted) (r : Result FilledDraft BuildError)
+pub draft_filled :
+    (hash : Alg → List ℕ → List ℕ) (said : Question → Verdict) (media other : List ℕ) (what : Opening Tree)
+    (d : Definition) (parts : SignParts) (w : Drafted) (r : Result FilledDraft BuildError)
     → IsDrafted hash said media other what d w → IfOk r (λ f. f.drafted ≡ w)
     → IfOk r (λ f. IsSigned parts d.reserve f.message) → IfErr r (λ e. WithoutFault e (IsReserveRefusal d parts e))
     → IsBuildFor hash media (Then (IsPairStage hash said media other what d) (IsMadeOver hash d parts)) (build_of d r)
-draft_filled hash said media other what d fills parts w (Ok f) at same signed refused =
+draft_filled hash said media other what d parts w (Ok f) at same signed refused =
     subst
     (λ (x : Drafted). MakesFile hash media (Then (IsPairStage hash said media other what d) (IsMadeOver hash d parts)) (record { definition = d; drafted = x; message = f.message }))
-    (sym same) (draft_makes hash said media other what d fills parts w f.message at signed)
-draft_filled hash said media other what d fills parts w (Err e) at same signed refused =
+    (sym same) (draft_makes hash said media other what d parts w f.message at signed)
+draft_filled hash said media other what d parts w (Err e) at same signed refused =
     outside_map e (reserve_refused hash said media other what d parts at.ground e at.passed) refused
 
 -- it fits the media for which it was drafted

@@ -1,6 +1,10 @@
 -- What is planned and what is built of a draft over two files.
+use Rattle.c2_new_signature.proofs.TheLaws.{a_message_fills_its_reserve_or_needs_more}
 use Rattle.std.proofs.Common.{◌≡◌, inl, inr, ℕ, List, ◌∷◌, ◌++◌, length, Option, Some, None, refl, sym, ap, ◌∙◌, subst}
 use Rattle.std.specs.Prelude.{Err, IfErr, IfOk, Ok, Result}
+use Rattle.c2_lemmas.specs.Stages.{Then}
+use Rattle.c2_lemmas.proofs.Stages.{then_next, unless_first, unless_passes}
+use Rattle.c2_lemmas.proofs.Lists.{none_both}
 use Rattle.c2_base.specs.declared.values.Question.{Question}
 use Rattle.c2_spec.specs.C2pa.Message.{bare_bytes}
 use Rattle.c2_spec.specs.C2pa.Sign1.{SignParts}
@@ -10,12 +14,11 @@ use Rattle.c2_spec.specs.declared.digest.Alg.{Alg}
 use Rattle.c2_spec.specs.declared.panel.Verdict.{Verdict}
 use Rattle.c2_definition.specs.declared.types.Definition.{Definition}
 use Rattle.c2_new_signature.specs.Refusals.{reserve_needed}
-use Rattle.c2_new_signature.specs.Signed.{FillsOrNeedsMore, IsSigned}
+use Rattle.c2_new_signature.specs.Signed.{IsSigned}
 use Rattle.c2_new_file_spec.specs.Store.{new_alg}
 use Rattle.c2_new_file_spec.specs.Places.{range_len}
 use Rattle.c2_collect_spec.specs.Order.{CollectRefusal, reserve_refusals}
-use Rattle.c2_collect_spec.specs.Outcomes.{CollectGround, IsGroundStage, IsMadeOn, IsMadeOver, IsNewFile, IsPairStage, IsPlannedOn, IsPlannedOver, IsPutIn, NewFile, Then, ground_refusals, ground_signed, new_file}
-use Rattle.c2_collect_spec.proofs.Stages.{then_next, unless_passes}
+use Rattle.c2_collect_spec.specs.Outcomes.{CollectGround, IsGroundStage, IsMadeOn, IsMadeOver, IsNewFile, IsPairStage, IsPlannedOn, IsPlannedOver, IsPutIn, NewFile, ground_refusals, ground_signed, new_file}
 use Rattle.c2_build_refusals.specs.Kinds.{SaysNothing}
 use Rattle.c2_build_refusals.specs.Refusals.{IsReserveRefusal}
 use Rattle.c2_build_refusals.specs.declared.error.BuildError.{BuildError}
@@ -27,8 +30,7 @@ use Rattle.c2_build_drafts.specs.declared.ready.DraftedBuild.{DraftedBuild}
 use Rattle.c2_build_collect_base.specs.Errors.{IsAnswerTo, IsRefusedWith}
 use Rattle.c2_build_collect.specs.Steps.{IsDrafted, IsFirstError, IsPassed, IsReadyFor, IsRefusedDraft, MakesFile, ground_of}
 use Rattle.c2_build_collect.proofs.Refused.{first_before, first_behind, reserve_first, reserve_none}
-use Rattle.c2_build_collect.proofs.Stages.{refused_first, refused_next, unless_first}
-use Rattle.c2_collect_spec.proofs.Order.{none_both}
+use Rattle.c2_build_collect.proofs.Stages.{refused_first, refused_next}
 
 -- ---- what is refused
 
@@ -95,14 +97,14 @@ module _ (hash : Alg → List ℕ → List ℕ) (said : Question → Verdict) (m
   none_needed (Some n) h = absurd (h n refl)
 
   -- a new file is built of what passed, with a message that fills what is reserved
-  passed_file : FillsOrNeedsMore → (parts : SignParts) (g : CollectGround) (message : List ℕ)
+  passed_file : (parts : SignParts) (g : CollectGround) (message : List ℕ)
       → IsPassed hash said media other what d g → IsSigned parts d.reserve message → (bytes : List ℕ)
       → IsPutIn hash d g message bytes
       → Then (IsPairStage hash said media other what d) (IsMadeOver hash d parts) (Ok (new_file g (length message) bytes))
-  passed_file fills parts g message passed signed bytes put =
+  passed_file parts g message passed signed bytes put =
       let file : NewFile = new_file g (length message) bytes in
       let enough : reserve_needed d.reserve (length (bare_bytes parts)) ≡ None =
-      none_needed _ (λ n e. fills.never_both parts d.reserve message signed (n, e)) in
+      none_needed _ (λ n e. a_message_fills_its_reserve_or_needs_more.never_both parts d.reserve message signed (n, e)) in
       let none =
       none_both (ground_refusals d g) (reserve_refusals d parts) passed.unrefused (reserve_none d parts enough) in
       then_next (IsPairStage hash said media other what d) (IsMadeOver hash d parts) g.pair (Ok file) passed.pair
@@ -110,11 +112,11 @@ module _ (hash : Alg → List ℕ → List ℕ) (said : Question → Verdict) (m
       (unless_passes (ground_refusals d g ++ reserve_refusals d parts) (IsNewFile hash d parts g) (Ok file) none (message, signed, (bytes, put, refl))))
 
   -- what was drafted makes the new file, with a message that fills what is reserved
-  pub draft_makes : FillsOrNeedsMore → (parts : SignParts) (w : Drafted) (message : List ℕ)
+  pub draft_makes : (parts : SignParts) (w : Drafted) (message : List ℕ)
       → IsDrafted hash said media other what d w → IsSigned parts d.reserve message
       → MakesFile hash media (Then (IsPairStage hash said media other what d) (IsMadeOver hash d parts)) (record { definition = d; drafted = w; message = message })
-  draft_makes fills parts w message at signed =
-      record { ground = at.ground; over = at.over; made = passed_file fills parts at.ground message at.passed signed }
+  draft_makes parts w message at signed =
+      record { ground = at.ground; over = at.over; made = passed_file parts at.ground message at.passed signed }
 
 -- what is ready of what was drafted is the new file that it makes
 pub ready_made : (hash : Alg → List ℕ → List ℕ) (media : List ℕ) (Is : Result NewFile CollectRefusal → Type 0) (b : DraftedBuild) (r : Result Ready BuildError) (m : MakesFile hash media Is b)

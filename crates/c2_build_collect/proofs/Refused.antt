@@ -2,6 +2,7 @@
 use Rattle.std.proofs.Common.{◌≡◌, ℕ, ◌+◌, Bool, true, false, cond, List, [], ◌∷◌, ◌++◌, length, Option, Some, None, refl, sym, ap, ◌∙◌, subst, nat_le, nat_lt}
 use Rattle.std.specs.Prelude.{is_none, option_map}
 use Rattle.std.specs.Option.{option_or, option_to_list}
+use Rattle.c2_lemmas.proofs.Lists.{none_both}
 use Rattle.c2_base.specs.declared.limits.TheConstants.{FILE_LEN_LIMIT, MAX_MANIFESTS, MAX_ROOT_BOXES, MAX_STORE_LEN}
 use Rattle.c2_spec.specs.Bmff.Paths.{placed_from}
 use Rattle.c2_spec.specs.Bmff.Writing.{open_end}
@@ -19,7 +20,6 @@ use Rattle.c2_build_refusals.specs.declared.error.BuildError.TheVariants as buil
 use Rattle.c2_build_refusals.proofs.Stages.{first_of_both}
 use Rattle.c2_build_collect_base.specs.Errors.{error_of}
 use Rattle.c2_build_collect.specs.Steps.{IsFirstError}
-use Rattle.c2_collect_spec.proofs.Order.{none_both}
 
 -- ---- lists one after the other
 

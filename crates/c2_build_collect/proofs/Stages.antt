@@ -1,8 +1,11 @@
 -- The inputs of a build, from the stages of any build to those of one that collects, and what comes behind them.
 use Rattle.c2_opening.proofs.TheLaws.{one_opening_file}
 use Rattle.c2_definition.proofs.TheLaws.{each_definition_is_read_one_way_one}
-use Rattle.std.proofs.Common.{◌≡◌, ℕ, List, [], ◌∷◌, refl, sym, ap, ◌∙◌, subst}
+use Rattle.c2_new_signature.proofs.TheLaws.{one_message_read}
+use Rattle.std.proofs.Common.{◌≡◌, ℕ, List, [], refl, subst}
 use Rattle.std.specs.Prelude.{Result, Ok, Err}
+use Rattle.c2_lemmas.specs.Stages.{AskedBehind, AsksThen, Then}
+use Rattle.c2_lemmas.proofs.Stages.{IsOne, one_stage, stage_error, stage_value}
 use Rattle.c2_base.specs.declared.values.Question.{Question}
 use Rattle.c2_spec.specs.C2pa.Sign1.{SignParts}
 use Rattle.c2_spec.specs.Jumbf.Tree.{Tree}
@@ -11,16 +14,13 @@ use Rattle.c2_spec.specs.declared.digest.Alg.{Alg}
 use Rattle.c2_rules.specs.Opened.{IsOpened}
 use Rattle.c2_definition.specs.DefinitionFile.{IsDefinition}
 use Rattle.c2_definition.specs.declared.types.Definition.{Definition}
-use Rattle.c2_definition.specs.declared.types.DefinitionField.{DefinitionField}
-use Rattle.c2_new_signature.specs.Message.{RefusedForOne, IsMessageRead}
-use Rattle.c2_new_signature.specs.declared.error.SignaturePart.{SignaturePart}
 use Rattle.c2_collect_spec.specs.Order.{CollectRefusal, bad_definition, bad_signature, media_refused}
-use Rattle.c2_collect_spec.specs.Outcomes.{AskedBehind, AsksThen, NewFile, Then, Unless}
+use Rattle.c2_collect_spec.specs.Outcomes.{NewFile}
 use Rattle.c2_collect_spec.specs.Outcomes as collect
-use Rattle.c2_collect_spec.proofs.Stages.{IsOne}
-use Rattle.c2_build_refusals.specs.Stages.{IsDefinitionStage, IsMediaStage, IsMessageStage, MediaKind, definition_stage, fresh, media_stage, message_stage, stored}
+use Rattle.c2_build_refusals.specs.Stages.{IsDefinitionStage, IsMediaStage, IsMessageStage, MediaKind, fresh, media_stage, stored}
+use Rattle.c2_new_signature.specs.Message.{IsMessageRead}
 use Rattle.c2_build_refusals.specs.declared.error.BuildError.{BuildError}
-use Rattle.c2_build_refusals.proofs.Inputs.{one_message}
+use Rattle.c2_build_refusals.specs.declared.error.BuildError.TheVariants.{BadDefinition, BadSignature}
 use Rattle.c2_build_refusals.proofs.Outside.{outside_map}
 use Rattle.c2_build_refusals.proofs.Passing.{opened_absent, opened_here}
 use Rattle.c2_build_drafts.specs.declared.ready.DraftedBuild.{DraftedBuild}
@@ -54,72 +54,45 @@ media_error media e s = by s.0 s.1 s.2
 
 -- a media file is one thing to a build that collects
 pub one_media : (media : List ℕ) → IsOne (collect.IsMediaStage media)
-one_media media r s h k = h.2 ∙ ap collect.media_stage (one_opening_file media h.0 k.0 h.1 k.1) ∙ sym k.2
+one_media media = one_stage collect.media_stage (IsOpened media) (one_opening_file media)
 
 -- ---- the definition
 
 -- a definition is one
 pub defined_as : (file : List ℕ) (d : Definition) → IsDefinitionStage file (Ok d)
     → collect.IsDefinitionStage file (Ok d)
-defined_as file d s = by s.0 s.1 s.2
-  where
-    by : (r : Result Definition DefinitionField) → IsDefinition file r
-        → ◌≡◌ {A = Result Definition BuildError} (Ok d) (definition_stage r) → collect.IsDefinitionStage file (Ok d)
-    by (Ok x) is e = (Ok x, is, cc (e))
-    by (Err field) is e = absurd (cc (e))
+defined_as file d s = (Ok d, stage_value BadDefinition (IsDefinition file) d s, refl)
 
 -- a definition file that is refused is refused with its error
 pub definition_error : (file : List ℕ) (e : BuildError) → IsDefinitionStage file (Err e)
     → IsRefusedWith (collect.IsDefinitionStage file) e
-definition_error file e s = by s.0 s.1 s.2
-  where
-    by : (r : Result Definition DefinitionField) → IsDefinition file r
-        → ◌≡◌ {A = Result Definition BuildError} (Err e) (definition_stage r)
-        → IsRefusedWith (collect.IsDefinitionStage file) e
-    by (Ok x) is same = absurd (cc (same))
-    by (Err field) is same = (bad_definition field, (Err field, is, refl), cc (same))
+definition_error file e s =
+    let f = stage_error BadDefinition (IsDefinition file) e s in
+    (bad_definition f.0, (Err f.0, f.1, refl), f.2)
 
 -- a definition file is one thing to a build that collects
 pub one_definition : (file : List ℕ) → IsOne (collect.IsDefinitionStage file)
-one_definition file r s h k =
-    h.2 ∙ ap collect.definition_stage (each_definition_is_read_one_way_one file h.0 k.0 h.1 k.1) ∙ sym k.2
+one_definition file =
+    one_stage collect.definition_stage (IsDefinition file) (each_definition_is_read_one_way_one file)
 
 -- ---- the message
 
 -- a message is one
 pub message_as : (protected bytes : List ℕ) (p : SignParts) → IsMessageStage protected bytes (Ok p)
     → collect.IsMessageStage protected bytes (Ok p)
-message_as protected bytes p s = by s.0 s.1 s.2
-  where
-    by : (r : Result SignParts SignaturePart) → IsMessageRead protected bytes r
-        → ◌≡◌ {A = Result SignParts BuildError} (Ok p) (message_stage r) → collect.IsMessageStage protected bytes (Ok p)
-    by (Ok x) is e = (Ok x, is, cc (e))
-    by (Err test) is e = absurd (cc (e))
+message_as protected bytes p s = (Ok p, stage_value BadSignature (IsMessageRead protected bytes) p s, refl)
 
 -- a message that is refused is refused with its error
 pub message_error : (protected bytes : List ℕ) (e : BuildError) → IsMessageStage protected bytes (Err e)
     → IsRefusedWith (collect.IsMessageStage protected bytes) e
-message_error protected bytes e s = by s.0 s.1 s.2
-  where
-    by : (r : Result SignParts SignaturePart) → IsMessageRead protected bytes r
-        → ◌≡◌ {A = Result SignParts BuildError} (Err e) (message_stage r)
-        → IsRefusedWith (collect.IsMessageStage protected bytes) e
-    by (Ok x) is same = absurd (cc (same))
-    by (Err test) is same = (bad_signature test, (Err test, is, refl), cc (same))
-
--- messages that come to one thing were read as one
-same_read : (m n : Result SignParts SignaturePart) → message_stage m ≡ message_stage n → m ≡ n
-same_read (Ok p) (Ok q) e = cc (e)
-same_read (Ok p) (Err t) e = absurd (cc (e))
-same_read (Err t) (Ok q) e = absurd (cc (e))
-same_read (Err t) (Err u) e = cc (e)
+message_error protected bytes e s =
+    let f = stage_error BadSignature (IsMessageRead protected bytes) e s in
+    (bad_signature f.0, (Err f.0, f.1, refl), f.2)
 
 -- a message is one thing to a build that collects
-pub one_signed : RefusedForOne → (protected bytes : List ℕ) → IsOne (collect.IsMessageStage protected bytes)
-one_signed law protected bytes r s h k =
-    let same =
-    one_message law protected bytes (message_stage h.0) (message_stage k.0) (h.0, h.1, refl) (k.0, k.1, refl) in
-    h.2 ∙ ap collect.message_stage (same_read h.0 k.0 same) ∙ sym k.2
+pub one_signed : (protected bytes : List ℕ) → IsOne (collect.IsMessageStage protected bytes)
+one_signed protected bytes =
+    one_stage collect.message_stage (IsMessageRead protected bytes) (one_message_read protected bytes)
 
 -- ---- one stage after the other
 
@@ -156,26 +129,12 @@ build_next hash media First Next a (Ok b) first h =
     { ground = h.ground; over = h.over; made = λ bytes put. record { first = Ok a; is_first = first; next = h.made bytes put } }
 build_next hash media First Next a (Err e) first h = outside_map e (refused_next First Next a e first) h
 
--- the first of a list is what refuses
-pub unless_first :
-    {A : Type 0} (es : List CollectRefusal) (Next : Result A CollectRefusal → Type 0) (refusal : CollectRefusal)
-    (others : List CollectRefusal)
-    → es ≡ refusal ∷ others → Unless es Next (Err refusal)
-unless_first {A} es Next refusal others is =
-    subst (λ (xs : List CollectRefusal). Unless {A = A} xs Next (Err refusal)) (sym is) refl
-
 -- ---- questions
-
--- what is asked behind a stage that passed is what its value asks
-pub asks_behind :
-    {A : Type 0} (First : Result A CollectRefusal → Type 0) (Asks : A → List Question → Type 0) (a : A)
-    (qs : List Question)
-    → IsOne First → First (Ok a) → AsksThen First Asks qs → Asks a qs
-asks_behind First Asks a qs one is h = subst (λ r. AskedBehind r Asks qs) (one h.first (Ok a) h.is_first is) h.asks
 
 -- nothing is asked behind a stage that refuses
 pub asks_none :
     {A : Type 0} (First : Result A CollectRefusal → Type 0) (Asks : A → List Question → Type 0) (e : BuildError)
     (qs : List Question)
     → IsOne First → IsRefusedWith First e → AsksThen First Asks qs → qs ≡ []
-asks_none First Asks e qs one is h = subst (λ r. AskedBehind r Asks qs) (one h.first (Err is.0) h.is_first is.1) h.asks
+asks_none {A} First Asks e qs one is h =
+    subst (λ (r : Result A CollectRefusal). AskedBehind r Asks qs) (one h.first (Err is.0) h.is_first is.1) h.asks

@@ -1,24 +1,25 @@
 -- What is asked: nothing where an input before the other file is refused, and else what is asked of both files.
 use Rattle.std.proofs.Common.{◌≡◌, ◌⊎◌, ℕ, List, [], Option, Some, inl, inr}
 use Rattle.std.specs.Prelude.{Ok, Err}
+use Rattle.c2_lemmas.specs.Stages.{AsksThen}
+use Rattle.c2_lemmas.proofs.Asks.{asks_behind}
 use Rattle.c2_base.specs.declared.values.Question.{Question}
 use Rattle.c2_spec.specs.C2pa.Sign1.{SignParts}
 use Rattle.c2_spec.specs.declared.digest.Alg.{Alg}
 use Rattle.c2_spec.specs.declared.panel.Verdict.{Verdict}
 use Rattle.c2_definition.specs.declared.types.Definition.{Definition}
-use Rattle.c2_new_signature.specs.Message.{RefusedForOne}
 use Rattle.c2_collect_spec.specs.Outcomes as collect
 use Rattle.c2_build_refusals.specs.Kinds.{WithoutFault}
 use Rattle.c2_build_refusals.specs.Stages.{IsDefinitionRefused, IsDefinitionStage, IsMediaStage, IsMessageStage, IsToldRefused, MediaKind}
 use Rattle.c2_build_refusals.specs.declared.error.BuildError.{BuildError}
-use Rattle.c2_build_refusals.proofs.Inputs.{OneDefinition, OneItem, OneOpened, not_both_definitions, not_both_media}
+use Rattle.c2_build_refusals.proofs.Inputs.{not_both_definitions, not_both_media}
 use Rattle.c2_build_refusals.proofs.Outside.{outside_all, outside_map, said_each}
 use Rattle.c2_build_base.specs.Grounds.{IsKind}
 use Rattle.c2_build_base.specs.declared.media.MediaRead.{MediaRead}
 use Rattle.c2_build_collect_base.specs.Grounds.{PairHears, opening_of}
 use Rattle.c2_build_collect.specs.Answers.{AsksEmbed, AsksEmbedded, AsksPlanned, IsEitherRefused}
 use Rattle.c2_build_collect.proofs.Due.{definition_told, message_told, other_told, undefined, unsigned, untold}
-use Rattle.c2_build_collect.proofs.Stages.{asks_behind, asks_none, defined_as, definition_error, media_error, message_as, message_error, one_definition, one_media, one_signed, opened_as}
+use Rattle.c2_build_collect.proofs.Stages.{asks_none, defined_as, definition_error, media_error, message_as, message_error, one_definition, one_media, one_signed, opened_as}
 
 -- what is said of each list that is asked
 said_of : (e : BuildError) (Asks : List Question → Type 0) → ((qs : List Question) → Asks qs → WithoutFault e (qs ≡ []))
@@ -37,7 +38,7 @@ neither d media definition found stage (inr told) = not_both_definitions told.0 
 
 -- ---- what `plan_collect` asks
 
-module _ (one : OneOpened) (hash : Alg → List ℕ → List ℕ) (said : Question → Verdict) (media definition other : Option (List ℕ)) where
+module _ (hash : Alg → List ℕ → List ℕ) (said : Question → Verdict) (media definition other : Option (List ℕ)) where
   -- nothing where the media is refused
   pub refused_plan : (e : BuildError)
       → ((file : List ℕ) → media ≡ Some file → WithoutFault e (IsMediaStage file (Err e)))
@@ -51,7 +52,7 @@ module _ (one : OneOpened) (hash : Alg → List ℕ → List ℕ) (said : Questi
           (stage k.file k.is_file)
       by qs (inr h) = outside_all e h.0
 
-  module _ (defined : OneDefinition) (m : MediaRead) (found : (file : List ℕ) → media ≡ Some file → (kind : MediaKind) × IsKind file m kind) where
+  module _ (m : MediaRead) (found : (file : List ℕ) → media ≡ Some file → (kind : MediaKind) × IsKind file m kind) where
     -- nothing where the definition is refused
     pub undefined_plan : (e : BuildError)
         → ((bytes : List ℕ) → definition ≡ Some bytes → WithoutFault e (IsDefinitionStage bytes (Err e)))
@@ -61,7 +62,7 @@ module _ (one : OneOpened) (hash : Alg → List ℕ → List ℕ) (said : Questi
         by : (qs : List Question) → AsksPlanned hash media definition other said qs → WithoutFault e (qs ≡ [])
         by qs (inl k) =
             let kind = found k.file k.is_file in
-            let told = definition_told one hash said k.file kind.0 kind.1.stage definition k.bytes k.is_bytes in
+            let told = definition_told hash said k.file kind.0 kind.1.stage definition k.bytes k.is_bytes in
             outside_map e (λ is. asks_none (collect.IsDefinitionStage k.bytes) _ e qs (one_definition k.bytes) (definition_error k.bytes e is)
             (asks_behind (collect.IsMediaStage k.file) _ (opening_of kind.0) qs (one_media k.file) (opened_as k.file kind.0 kind.1.stage) k.asks)) (stage k.bytes told)
         by qs (inr h) = outside_all e h.0
@@ -71,7 +72,7 @@ module _ (one : OneOpened) (hash : Alg → List ℕ → List ℕ) (said : Questi
         → (qs : List Question) → AsksPlanned hash media definition other said qs → PairHears hash media other m said qs
     planned_asks d stage qs (inl k) =
         let kind = found k.file k.is_file in
-        let told = definition_told one hash said k.file kind.0 kind.1.stage definition k.bytes k.is_bytes in
+        let told = definition_told hash said k.file kind.0 kind.1.stage definition k.bytes k.is_bytes in
         let read = stage k.bytes told in
         record {
           bytes = k.file;
@@ -80,7 +81,7 @@ module _ (one : OneOpened) (hash : Alg → List ℕ → List ℕ) (said : Questi
           is = kind.1;
           others = k.others;
           is_told =
-              other_told one hash said k.file kind.0 kind.1.stage {NotDue = IsDefinitionRefused k.bytes} other k.others
+              other_told hash said k.file kind.0 kind.1.stage {NotDue = IsDefinitionRefused k.bytes} other k.others
               (undefined d k.bytes read) k.is_others;
           asks = asks_behind (collect.IsDefinitionStage k.bytes) _ d qs (one_definition k.bytes) (defined_as k.bytes d read)
               (asks_behind (collect.IsMediaStage k.file) _ (opening_of kind.0) qs (one_media k.file) (opened_as k.file kind.0 kind.1.stage) k.asks);
@@ -89,7 +90,7 @@ module _ (one : OneOpened) (hash : Alg → List ℕ → List ℕ) (said : Questi
 
 -- ---- what `embed_collect` asks
 
-module _ (one : OneOpened) (hash : Alg → List ℕ → List ℕ) (said : Question → Verdict) (media definition message other : Option (List ℕ)) where
+module _ (hash : Alg → List ℕ → List ℕ) (said : Question → Verdict) (media definition message other : Option (List ℕ)) where
   -- nothing where the media is refused
   pub refused_embed : (e : BuildError)
       → ((file : List ℕ) → media ≡ Some file → WithoutFault e (IsMediaStage file (Err e)))
@@ -103,7 +104,7 @@ module _ (one : OneOpened) (hash : Alg → List ℕ → List ℕ) (said : Questi
           (stage k.file k.is_file)
       by qs (inr h) = outside_all e h.0
 
-  module _ (defined : OneDefinition) (m : MediaRead) (found : (file : List ℕ) → media ≡ Some file → (kind : MediaKind) × IsKind file m kind) where
+  module _ (m : MediaRead) (found : (file : List ℕ) → media ≡ Some file → (kind : MediaKind) × IsKind file m kind) where
     -- nothing where the definition is refused
     pub undefined_embed : (e : BuildError)
         → ((bytes : List ℕ) → definition ≡ Some bytes → WithoutFault e (IsDefinitionStage bytes (Err e)))
@@ -113,18 +114,18 @@ module _ (one : OneOpened) (hash : Alg → List ℕ → List ℕ) (said : Questi
         by : (qs : List Question) → AsksEmbedded hash media definition message other said qs → WithoutFault e (qs ≡ [])
         by qs (inl k) =
             let kind = found k.file k.is_file in
-            let told = definition_told one hash said k.file kind.0 kind.1.stage definition k.bytes k.is_bytes in
+            let told = definition_told hash said k.file kind.0 kind.1.stage definition k.bytes k.is_bytes in
             outside_map e (λ is. asks_none (collect.IsDefinitionStage k.bytes) _ e qs (one_definition k.bytes) (definition_error k.bytes e is)
             (asks_behind (collect.IsMediaStage k.file) _ (opening_of kind.0) qs (one_media k.file) (opened_as k.file kind.0 kind.1.stage) k.asks)) (stage k.bytes told)
         by qs (inr h) = outside_all e h.0
 
-    module _ (item : OneItem) (refusals : RefusedForOne) (d : Definition) (is : (bytes : List ℕ) → definition ≡ Some bytes → IsDefinitionStage bytes (Ok d)) where
+    module _ (d : Definition) (is : (bytes : List ℕ) → definition ≡ Some bytes → IsDefinitionStage bytes (Ok d)) where
       -- what is asked behind the definition
       behind_definition : (qs : List Question) (k : AsksEmbed hash media definition message other said qs)
-          → collect.AsksThen (collect.IsMessageStage d.protected k.signed) (λ parts. collect.PairAsks hash said k.file k.others (opening_of (found k.file k.is_file).0)) qs
+          → AsksThen (collect.IsMessageStage d.protected k.signed) (λ parts. collect.PairAsks hash said k.file k.others (opening_of (found k.file k.is_file).0)) qs
       behind_definition qs k =
           let kind = found k.file k.is_file in
-          let told = definition_told one hash said k.file kind.0 kind.1.stage definition k.bytes k.is_bytes in
+          let told = definition_told hash said k.file kind.0 kind.1.stage definition k.bytes k.is_bytes in
           asks_behind (collect.IsDefinitionStage k.bytes) _ d qs (one_definition k.bytes)
           (defined_as k.bytes d (is k.bytes told))
           (asks_behind (collect.IsMediaStage k.file) _ (opening_of kind.0) qs (one_media k.file) (opened_as k.file kind.0 kind.1.stage) k.asks)
@@ -134,9 +135,8 @@ module _ (one : OneOpened) (hash : Alg → List ℕ → List ℕ) (said : Questi
           → message ≡ Some k.signed
       signed_told qs k =
           let kind = found k.file k.is_file in
-          let told = definition_told one hash said k.file kind.0 kind.1.stage definition k.bytes k.is_bytes in
-          message_told one hash said k.file kind.0 kind.1.stage defined d k.bytes (is k.bytes told) message k.signed
-          k.is_signed
+          let told = definition_told hash said k.file kind.0 kind.1.stage definition k.bytes k.is_bytes in
+          message_told hash said k.file kind.0 kind.1.stage d k.bytes (is k.bytes told) message k.signed k.is_signed
 
       -- nothing where the message is refused
       pub unsigned_embed : (e : BuildError)
@@ -148,7 +148,7 @@ module _ (one : OneOpened) (hash : Alg → List ℕ → List ℕ) (said : Questi
               → WithoutFault e (qs ≡ [])
           by qs (inl k) =
               outside_map e
-              (λ read. asks_none (collect.IsMessageStage d.protected k.signed) _ e qs (one_signed refusals d.protected k.signed) (message_error d.protected k.signed e read) (behind_definition qs k))
+              (λ read. asks_none (collect.IsMessageStage d.protected k.signed) _ e qs (one_signed d.protected k.signed) (message_error d.protected k.signed e read) (behind_definition qs k))
               (stage k.signed (signed_told qs k))
           by qs (inr h) = outside_all e h.0
 
@@ -159,7 +159,7 @@ module _ (one : OneOpened) (hash : Alg → List ℕ → List ℕ) (said : Questi
           → PairHears hash media other m said qs
       embedded_asks p stage qs (inl k) =
           let kind = found k.file k.is_file in
-          let told = definition_told one hash said k.file kind.0 kind.1.stage definition k.bytes k.is_bytes in
+          let told = definition_told hash said k.file kind.0 kind.1.stage definition k.bytes k.is_bytes in
           let read = stage k.signed (signed_told qs k) in
           record {
             bytes = k.file;
@@ -168,15 +168,15 @@ module _ (one : OneOpened) (hash : Alg → List ℕ → List ℕ) (said : Questi
             is = kind.1;
             others = k.others;
             is_told =
-                other_told one hash said k.file kind.0 kind.1.stage other k.others
-                (unsigned refusals d p k.bytes k.signed (is k.bytes told) read) k.is_others;
+                other_told hash said k.file kind.0 kind.1.stage other k.others
+                (unsigned d p k.bytes k.signed (is k.bytes told) read) k.is_others;
             asks =
                 asks_behind (collect.IsMessageStage d.protected k.signed) _ p qs
-                (one_signed refusals d.protected k.signed) (message_as d.protected k.signed p read)
+                (one_signed d.protected k.signed) (message_as d.protected k.signed p read)
                 (behind_definition qs k);
           }
       embedded_asks p stage qs (inr h) = absurd (by h.1)
         where
           by : IsEitherRefused media definition ⊎ IsToldRefused definition message → ⊥
           by (inl refused) = neither d media definition (λ file known. let kind = found file known in (kind.0, kind.1.stage)) is refused
-          by (inr told) = untold refusals d p definition message is stage told
+          by (inr told) = untold d p definition message is stage told

@@ -2,8 +2,6 @@
 ghost use Rattle.c2_build_collect.specs.Asked.{OneCollectAsks, OneCollectPlanAsks, SomeCollectAsks};
 ghost use Rattle.c2_build_collect.specs.Asked.{SomeCollectPlanAsks};
 
-use c2_validate::each_file_has_a_check;
-
 /// The same inputs ask one list of questions at most.
 pub fn a_collected_build_asks_one_list()
     ensures plan { OneCollectPlanAsks }
@@ -14,6 +12,4 @@ pub fn a_collected_build_asks_one_list()
 pub fn each_collected_build_asks_a_list()
     ensures plan { SomeCollectPlanAsks }
     ensures embedding { SomeCollectAsks }
-{
-    each_file_has_a_check();
-}
+{}

@@ -1,5 +1,6 @@
 // What is to be built over two files, with a message that fills what is reserved for it.
 ghost use Rattle.std.specs.Prelude.{◌≡◌, ◌⊎◌, ℕ, IfErr, IfOk, List, Option, map};
+ghost use Rattle.c2_lemmas.specs.Stages.{Then};
 ghost use Rattle.c2_base.specs.Causes.{Rose};
 ghost use Rattle.c2_base.specs.Source.{ReadsSource};
 ghost use Rattle.c2_spec.specs.C2pa.Message.{CanBePadded};
@@ -9,7 +10,7 @@ ghost use Rattle.c2_spec.specs.Judges.Panel.{panel_says};
 ghost use Rattle.c2_rules.specs.Asking.{HearsPanel};
 ghost use Rattle.c2_definition.specs.DefinitionFile.{IsWellFormed};
 ghost use Rattle.c2_new_signature.specs.Signed.{IsSigned};
-ghost use Rattle.c2_collect_spec.specs.Outcomes.{IsMadeOver, IsPairStage, Then};
+ghost use Rattle.c2_collect_spec.specs.Outcomes.{IsMadeOver, IsPairStage};
 ghost use Rattle.c2_build_refusals.specs.Kinds.{IsMessageCause, WithoutFault, build_heard};
 ghost use Rattle.c2_build_refusals.specs.Refusals.{IsReserveRefusal};
 ghost use Rattle.c2_build_in_place.specs.Numbers.{IsOfFile};

@@ -1,12 +1,12 @@
 // What is to be signed of a new manifest whose store collects.
 ghost use Rattle.std.specs.Prelude.{map};
+ghost use Rattle.c2_lemmas.specs.Stages.{Then};
 ghost use Rattle.c2_base.specs.Causes.{Rose};
 ghost use Rattle.c2_base.specs.Source.{ReadsSource};
 ghost use Rattle.c2_build_endings.specs.Sources.{use_of};
 ghost use Rattle.c2_spec.specs.Judges.Panel.{panel_says};
 ghost use Rattle.c2_rules.specs.Asking.{HearsPanel};
 ghost use Rattle.c2_collect_spec.specs.Outcomes.{IsCollectPlanned, IsPairStage, IsPlannedOver};
-ghost use Rattle.c2_collect_spec.specs.Outcomes.{Then};
 ghost use Rattle.c2_build_refusals.specs.Kinds.{build_heard};
 ghost use Rattle.c2_build_base.specs.Grounds.{IsReadIn};
 ghost use Rattle.c2_build_in_place.specs.Numbers.{IsOfFile};

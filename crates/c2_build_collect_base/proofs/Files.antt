@@ -1,33 +1,33 @@
 -- What each of both files is to a new store that collects, by what its check answered.
 use Rattle.c2_opening.proofs.TheLaws.{one_opening_file}
-use Rattle.c2_read_manifests.proofs.TheLaws.{one_reading_file}
+use Rattle.c2_read_manifests.proofs.TheLaws.{one_reading_file, one_reading_manifests}
 use Rattle.std.proofs.Common.{◌≡◌, ℕ, List, [], ◌∷◌, length, Option, None, Some, refl, sym, ap, ◌∙◌, subst}
 use Rattle.std.specs.Prelude.{Err, Ok, Result, option_map}
 use Rattle.std.specs.Option.{option_to_list}
+use Rattle.c2_lemmas.specs.Stages.{Unless}
+use Rattle.c2_lemmas.proofs.Stages.{unless_passes}
 use Rattle.c2_base.specs.declared.values.Question.{Question}
-use Rattle.c2_spec.specs.C2pa.Manifest.{Manifest, manifests_of}
+use Rattle.c2_spec.specs.C2pa.Manifest.{manifests_of}
 use Rattle.c2_spec.specs.Jumbf.Tree.{Tree, none}
 use Rattle.c2_spec.specs.Located.{Opening, absent, here, refused}
 use Rattle.c2_spec.specs.declared.digest.Alg.{Alg}
 use Rattle.c2_spec.specs.declared.panel.Verdict.{Verdict}
 use Rattle.c2_rules.specs.CheckList.{StoreReading, answer_of, check_asks, check_list, store_answer, summary_of}
 use Rattle.c2_rules.specs.Opened.{IsOpened}
-use Rattle.c2_rules.specs.Readings.{AreReadings, Reading}
+use Rattle.c2_rules.specs.Readings.{AreReadings}
 use Rattle.c2_rules.specs.Tests.{first_failing}
 use Rattle.c2_rules.specs.Validated.{CheckAsks, IsOpenedAnswer, OpenedAsks}
 use Rattle.c2_rules.specs.declared.answer.Answer.{Answer}
 use Rattle.c2_rules.specs.declared.answer.Answer.TheVariants as answer
 use Rattle.c2_rules.specs.declared.answer.Failing.{Failing}
 use Rattle.c2_rules.specs.declared.answer.Summary.{Summary}
-use Rattle.c2_chain_spec.specs.Rooted.{StoreIsRooted}
 use Rattle.c2_new_file_spec.specs.Redacting.{boxes_in}
 use Rattle.c2_without_store.specs.Clears.{cleared}
 use Rattle.c2_without_store.specs.declared.clearing.Clearing.{Clearing}
 use Rattle.c2_new_file_spec.specs.Bases.{IsLeft}
 use Rattle.c2_collect_spec.specs.Order.{CollectRefusal, IsMediaFile, IsOtherFile, IsValidAnswer, MediaFile, OtherFile, other_refusals, other_refused, parent_fails, parent_refusals}
-use Rattle.c2_collect_spec.specs.Outcomes.{IsOtherStage, IsParentStage, Unless}
+use Rattle.c2_collect_spec.specs.Outcomes.{IsOtherStage, IsParentStage}
 use Rattle.c2_collect_spec.proofs.Order.{IsOtherStore, media_store, other_store}
-use Rattle.c2_collect_spec.proofs.Stages.{unless_passes}
 use Rattle.c2_collect_spec.proofs.Stores.{none_rooted}
 use Rattle.c2_build_refusals.specs.Kinds.{WithoutFault}
 use Rattle.c2_build_refusals.specs.declared.error.BuildError.{BuildError}
@@ -41,10 +41,6 @@ use Rattle.c2_build_collect_base.specs.Grounds.{IsParentRefused}
 use Rattle.c2_build_collect_base.specs.Steps.{IsOpeningError, IsOtherError, IsOurs, IsReadStore, IsTheirs, IsUnopened, boxes_of, readings_of}
 use Rattle.c2_build_collect_base.specs.declared.stores.Ours.{Ours}
 use Rattle.c2_build_collect_base.specs.declared.stores.ReadStore.{ReadStore}
-
--- manifests are read in one way
-abbrev pub OneReadings : Type 0
-OneReadings = (ms : List Manifest) (rs ss : List Reading) → AreReadings ms rs → AreReadings ms ss → rs ≡ ss
 
 -- ---- the other file
 
@@ -108,18 +104,18 @@ pub record IsOtherPassed (hash : Alg → List ℕ → List ℕ) (said : Question
   pub theirs : IsTheirs hash s other
 
 -- one that is valid isn't
-pub other_passes : OneReadings → StoreIsRooted
-    → (hash : Alg → List ℕ → List ℕ) (said : Question → Verdict) (file : List ℕ) (older : OlderStore) (s : ReadStore)
+pub other_passes :
+    (hash : Alg → List ℕ → List ℕ) (said : Question → Verdict) (file : List ℕ) (older : OlderStore) (s : ReadStore)
     → s.older.now ≡ older
     → IsOpened file (here older.range.start older.range.length older.tree) → IsChecked hash said file → IsReadStore s
     → IsOtherPassed hash said file s
-other_passes readings law hash said file older s same read_as checked read = record {
+other_passes hash said file older s same read_as checked read = record {
   other = o;
   stage =
       (here start len s.older.now.tree, opened, (o, is, unless_passes (other_refusals o.answer) (λ r. r ≡ Ok o) (Ok o) (ap other_refusals valid.1) refl));
   theirs =
       record
-      { boxes = refl; readings = readings (manifests_of s.older.now.tree) past.reading.readings (readings_of s) past.reads.reads.each read.reads; rooted = store.rooted; some = store.some };
+      { boxes = refl; readings = one_reading_manifests (manifests_of s.older.now.tree) past.reading.readings (readings_of s) past.reads.reads.each read.reads; rooted = store.rooted; some = store.some };
 }
   where
     start : ℕ
@@ -147,7 +143,7 @@ other_passes readings law hash said file older s same read_as checked read = rec
         (summary_of (length file) start len past.reading, ap (answer_of (summary_of (length file) start len past.reading)) past.none)
 
     store : IsOtherStore hash o
-    store = other_store law hash said file (here start len s.older.now.tree) o opened is valid
+    store = other_store hash said file (here start len s.older.now.tree) o opened is valid
 
 -- ---- the media file
 
@@ -186,23 +182,24 @@ fresh_passes hash said file ours is clear = record {
     m = record { boxes = none; readings = []; failing = None; base = file }
 
 -- one with a store of which no rule fails
-pub stored_passes : OneReadings → StoreIsRooted
-    → (hash : Alg → List ℕ → List ℕ) (said : Question → Verdict) (file : List ℕ) (older : OlderStore) (s : ReadStore) (clearing : Clearing)
+pub stored_passes :
+    (hash : Alg → List ℕ → List ℕ) (said : Question → Verdict) (file : List ℕ) (older : OlderStore) (s : ReadStore)
+    (clearing : Clearing)
     → s.older.now ≡ older
     → IsOpened file (here older.range.start older.range.length older.tree)
     → IsLeft file older.range.start older.range.length (cleared clearing file) → IsChecked hash said file
     → IsReadStore s
     → IsMediaPassed hash said file (here older.range.start older.range.length older.tree) (record { clearing = clearing; store = Some s })
-stored_passes readings law hash said file older s clearing same opened left checked read = record {
+stored_passes hash said file older s clearing same opened left checked read = record {
   media = m;
   stage = (m, is, unless_passes (parent_refusals m) (λ r. r ≡ Ok m) (Ok m) (no_refusals m.failing past.none) refl);
   is_ours = record {
     boxes = ap (λ (o : OlderStore). boxes_in o.tree) (sym same);
     readings =
-        readings (manifests_of t) past.reading.readings (readings_of s) past.reads.reads.each
+        one_reading_manifests (manifests_of t) past.reading.readings (readings_of s) past.reads.reads.each
         (subst (λ (o : OlderStore). AreReadings (manifests_of o.tree) (readings_of s)) same read.reads);
     base = refl;
-    rooted = media_store law hash said file (here start len t) m opened is past.none;
+    rooted = media_store hash said file (here start len t) m opened is past.none;
   };
   only = λ r.
       let one_read : r.1.1.reading ≡ past.reading =

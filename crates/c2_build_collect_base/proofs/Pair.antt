@@ -1,6 +1,9 @@
 -- What both files come to, one stage after the other; what is asked of them; and the causes of errors.
+use Rattle.c2_read_manifests.proofs.TheLaws.{one_reading_manifests}
 use Rattle.std.proofs.Common.{◌≡◌, inl, inr, ℕ, List, [], ◌++◌, Option, None, Some, refl, sym, ap, ◌∙◌, subst}
 use Rattle.std.specs.Prelude.{Err, IfErr, Ok, Result}
+use Rattle.c2_lemmas.specs.Stages.{AskedBehind, AsksThen, Then}
+use Rattle.c2_lemmas.proofs.Stages.{then_next}
 use Rattle.c2_base.specs.declared.values.Question.{Question}
 use Rattle.c2_base.specs.declared.values.Range.{Range}
 use Rattle.c2_spec.specs.C2pa.Manifest.{manifests_of}
@@ -20,8 +23,7 @@ use Rattle.c2_container.specs.declared.types.Container.{Container}
 use Rattle.c2_without_store.specs.Clears.{cleared}
 use Rattle.c2_new_file_spec.specs.Bases.{IsLeft}
 use Rattle.c2_collect_spec.specs.Order.{CollectRefusal, FilePair, MediaFile}
-use Rattle.c2_collect_spec.specs.Outcomes.{AskedBehind, AsksThen, IsParentStage, Then}
-use Rattle.c2_collect_spec.proofs.Stages.{then_next}
+use Rattle.c2_collect_spec.specs.Outcomes.{IsParentStage}
 use Rattle.c2_build_refusals.specs.Kinds.{ErrorKind, IsAskCause, IsReadKind, IsSourceCause, WithoutFault, front_refusal, judge_effects, judge_fault, kind_of, message_refusal, no_memory, older_refusal, other_refusal, read_fault, refusal, write_fault}
 use Rattle.c2_build_refusals.specs.Stages.{MediaKind}
 use Rattle.c2_build_refusals.specs.declared.error.BuildError.{BuildError}
@@ -38,7 +40,7 @@ use Rattle.c2_validate.specs.declared.checking.OpenedStore.{OpenedStore}
 use Rattle.c2_build_collect_base.specs.Errors.{IsRefusedWith}
 use Rattle.c2_build_collect_base.specs.Grounds.{IsGroundOf, IsOtherTold, IsParentRefused, PairHears, ground_effects, opening_of}
 use Rattle.c2_build_collect_base.specs.Steps.{IsInner, IsInnerKind, IsOpeningError, IsOtherCause, IsReadThere, other_effects}
-use Rattle.c2_build_collect_base.proofs.Files.{OneReadings, unopened_asks}
+use Rattle.c2_build_collect_base.proofs.Files.{unopened_asks}
 use Rattle.c2_build_collect_base.proofs.Heard.{AreBoth, BeginsWith, IsUnwritten}
 
 -- ---- stages
@@ -132,14 +134,15 @@ asked_none hash said media others what qs not h = by h.first h.is_first h.asks
     by (Err r) stage asks = asks
 
 -- what is asked of a store is what the check of it asks
-asked_store : OneReadings
-    → (hash : Alg → List ℕ → List ℕ) (said : Question → Verdict) (what : Opening Tree) (start len : ℕ) (t : Tree) (o : OpenedStore) (qs : List Question)
+asked_store :
+    (hash : Alg → List ℕ → List ℕ) (said : Question → Verdict) (what : Opening Tree) (start len : ℕ) (t : Tree)
+    (o : OpenedStore) (qs : List Question)
     → what ≡ here start len t → AreReadings (manifests_of t) (readings_of o)
     → OpenedAsks (check_asks hash said) what qs → StoreAsks hash o said qs
-asked_store one hash said what start len t o qs is reads h =
+asked_store hash said what start len t o qs is reads h =
     let asks : OpenedAsks (check_asks hash said) (here start len t) qs =
     subst (λ (w : Opening Tree). OpenedAsks (check_asks hash said) w qs) is h in
-    asks.2 ∙ ap (check_asks hash said) (one (manifests_of t) asks.0 (readings_of o) asks.1 reads)
+    asks.2 ∙ ap (check_asks hash said) (one_reading_manifests (manifests_of t) asks.0 (readings_of o) asks.1 reads)
 
 -- over a media file without a store the other file's questions are asked alone
 pub fresh_asked :
@@ -160,13 +163,14 @@ fresh_asked hash said media other m none not qs k =
     )
 
 -- over one with a store, of which no rule fails, both files' questions are
-pub stored_asked : OneReadings
-    → (hash : Alg → List ℕ → List ℕ) (said : Question → Verdict) (media other : Option (List ℕ)) (m : MediaRead) (o : OlderStore) (s : OpenedStore)
+pub stored_asked :
+    (hash : Alg → List ℕ → List ℕ) (said : Question → Verdict) (media other : Option (List ℕ)) (m : MediaRead)
+    (o : OlderStore) (s : OpenedStore)
     → m.older ≡ Some o → AreReadings (manifests_of o.tree) (readings_of s)
     → ((bytes : List ℕ) (kind : MediaKind) → media ≡ Some bytes → IsKind bytes m kind → IsParentRefused hash said bytes (opening_of kind) → ⊥)
     → (qs : List Question) → PairHears hash media other m said qs
     → AreBoth (StoreAsks hash s) (AsksKnown other (FileAsks hash)) said qs
-stored_asked one hash said media other m o s is reads not qs k =
+stored_asked hash said media other m o s is reads not qs k =
     let what : Opening Tree = opening_of k.kind in
     let refused = not k.bytes k.kind k.is_known k.is in
     record {
@@ -174,7 +178,7 @@ stored_asked one hash said media other m o s is reads not qs k =
       second = k.asks.of_other;
       split = k.asks.are;
       is_first =
-          asked_store one hash said what o.range.start o.range.length o.tree s k.asks.of_media
+          asked_store hash said what o.range.start o.range.length o.tree s k.asks.of_media
           (stored_opening k.bytes m o k.kind is k.is) reads k.asks.media_asks;
       is_second = (
         k.others,
@@ -184,20 +188,21 @@ stored_asked one hash said media other m o s is reads not qs k =
     }
 
 -- where a rule fails, the media's are asked alone
-pub stored_begins : OneReadings
-    → (hash : Alg → List ℕ → List ℕ) (said : Question → Verdict) (media other : Option (List ℕ)) (m : MediaRead) (o : OlderStore) (s : OpenedStore) (e : BuildError)
+pub stored_begins :
+    (hash : Alg → List ℕ → List ℕ) (said : Question → Verdict) (media other : Option (List ℕ)) (m : MediaRead)
+    (o : OlderStore) (s : OpenedStore) (e : BuildError)
     → m.older ≡ Some o
     → AreReadings (manifests_of o.tree) (readings_of s)
     → ((bytes : List ℕ) (kind : MediaKind) → media ≡ Some bytes → IsKind bytes m kind → WithoutFault e ((f : MediaFile) → IsParentStage hash said bytes (opening_of kind) (Ok f) → ⊥))
     → (qs : List Question) → PairHears hash media other m said qs → BeginsWith (StoreAsks hash s) said e qs
-stored_begins one hash said media other m o s e is reads not qs k =
+stored_begins hash said media other m o s e is reads not qs k =
     let what : Opening Tree = opening_of k.kind in
     record {
       first = k.asks.of_media;
       rest = k.asks.of_other;
       split = k.asks.are;
       below =
-          asked_store one hash said what o.range.start o.range.length o.tree s k.asks.of_media
+          asked_store hash said what o.range.start o.range.length o.tree s k.asks.of_media
           (stored_opening k.bytes m o k.kind is k.is) reads k.asks.media_asks;
       none =
           outside_map e (λ none. asked_none hash said k.bytes k.others what k.asks.of_other none k.asks.other_asks)

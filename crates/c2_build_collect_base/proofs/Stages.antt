@@ -1,9 +1,13 @@
 -- Both files together, by what was read of them.
+use Rattle.c2_collect_spec.proofs.TheLaws.{what_is_collected_is_one_some, what_is_joined_is_reached_reached}
 use Rattle.std.proofs.Common.{◌≡◌, ℕ, ◌<◌, Bool, List, [], ◌∷◌, length, map, Option, None, Some, refl, sym, ap, ◌∙◌, subst}
 use Rattle.std.specs.Prelude.{Err, Ok}
 use Rattle.std.specs.List.{AllZip}
 use Rattle.std.specs.declared.alloc.Global.{Global}
 use Rattle.std.specs.declared.vec.Vec.{Vec}
+use Rattle.c2_lemmas.specs.Stages.{Unless}
+use Rattle.c2_lemmas.proofs.Stages.{unless_passes}
+use Rattle.c2_lemmas.proofs.Lists.{both_none}
 use Rattle.c2_spec.specs.Jumbf.Tree.{Trees, trees_bytes}
 use Rattle.c2_spec.specs.declared.digest.Alg.{Alg}
 use Rattle.c2_rules.specs.Chains.{is_reached}
@@ -18,14 +22,13 @@ use Rattle.c2_new_file_spec.specs.Store.{Content, NamedManifest, ingredient_asse
 use Rattle.c2_new_file_spec.specs.Written.{AreIngredients}
 use Rattle.c2_new_file_spec.specs.Redacting.{redacted_boxes}
 use Rattle.c2_without_store.specs.declared.clearing.Clearing.{Clearing}
-use Rattle.c2_collect_spec.specs.Collected.{CanCollect, CanJoin, CollectsFrom, IsNamedAt, JoinedIsReached, JoinedReaches, SomeContentCollects, collected_boxes, collected_ingredients, collected_readings, collected_roots}
+use Rattle.c2_collect_spec.specs.Collected.{CanCollect, CanJoin, CollectsFrom, IsNamedAt, JoinedReaches, collected_boxes, collected_ingredients, collected_readings, collected_roots}
 use Rattle.c2_collect_spec.specs.Order.{CollectRefusal, MediaFile, OtherFile, label_clash, label_refusals, label_taken, redaction_refused}
-use Rattle.c2_collect_spec.specs.Outcomes.{IsJoinedStage, Unless, pair_of}
+use Rattle.c2_collect_spec.specs.Outcomes.{IsJoinedStage, pair_of}
 use Rattle.c2_collect_spec.specs.Refusals.{redaction_refusal_by}
 use Rattle.c2_collect_spec.specs.Sides.{DoNotClash}
 use Rattle.c2_collect_spec.proofs.Contents.{ingredients_ok}
-use Rattle.c2_collect_spec.proofs.Order.{both_none, none_told}
-use Rattle.c2_collect_spec.proofs.Stages.{unless_passes}
+use Rattle.c2_collect_spec.proofs.Order.{none_told}
 use Rattle.c2_build_refusals.specs.Kinds.{WithoutFault}
 use Rattle.c2_build_refusals.specs.declared.error.BuildError.{BuildError}
 use Rattle.c2_build_refusals.specs.declared.types.BuildBase.{BuildBase}
@@ -118,35 +121,39 @@ can_collect hash d m o joins none =
     }
 
 -- what was tested of the stores that were read, by what is reached of them joined, was tested of both files
-joined_tested : (P : List CollectRefusal → Type 0) → JoinedIsReached
-    → (hash : Alg → List ℕ → List ℕ) (file : List ℕ) (d : Definition) (ours : Ours) (s : ReadStore) (m : MediaFile) (o : OtherFile)
+joined_tested :
+    (P : List CollectRefusal → Type 0) (hash : Alg → List ℕ → List ℕ) (file : List ℕ) (d : Definition) (ours : Ours)
+    (s : ReadStore) (m : MediaFile) (o : OtherFile)
     → IsOurs hash file ours m → IsTheirs hash s o → FilesApart m o
     → ((is_in : ℕ → Bool) → JoinedReaches (old_readings ours.store) (readings_of s) is_in → P (joined_tests d (collected_readings (old_readings ours.store) (readings_of s)) is_in))
     → P (file_tests d m o)
-joined_tested P law hash file d ours s m o h k apart tested =
+joined_tested P hash file d ours s m o h k apart tested =
     at_files
     (λ old old_rs other other_rs. (is_in : ℕ → Bool) → JoinedReaches old_rs other_rs is_in → P (joined_tests d (collected_readings old_rs other_rs) is_in))
     hash file ours s m o h k tested
     (is_reached_from (collected_readings m.readings o.readings) (collected_roots m.readings o.readings))
-    (law hash m.boxes o.boxes m.readings o.readings (can_join hash file ours s m o h k apart))
+    (what_is_joined_is_reached_reached hash m.boxes o.boxes m.readings o.readings
+    (can_join hash file ours s m o h k apart))
 
 -- this refuses
-pub tests_refuse : JoinedIsReached
-    → (hash : Alg → List ℕ → List ℕ) (file : List ℕ) (d : Definition) (ours : Ours) (s : ReadStore) (m : MediaFile) (o : OtherFile) (e : BuildError)
+pub tests_refuse :
+    (hash : Alg → List ℕ → List ℕ) (file : List ℕ) (d : Definition) (ours : Ours) (s : ReadStore) (m : MediaFile)
+    (o : OtherFile) (e : BuildError)
     → IsOurs hash file ours m → IsTheirs hash s o → FilesApart m o
     → ((is_in : ℕ → Bool) → JoinedReaches (old_readings ours.store) (readings_of s) is_in → WithoutFault e (IsFirstError (joined_tests d (collected_readings (old_readings ours.store) (readings_of s)) is_in) e))
     → WithoutFault e (IsFirstError (file_tests d m o) e)
-tests_refuse law hash file d ours s m o e h k apart tested =
-    joined_tested (λ es. WithoutFault e (IsFirstError es e)) law hash file d ours s m o h k apart tested
+tests_refuse hash file d ours s m o e h k apart tested =
+    joined_tested (λ es. WithoutFault e (IsFirstError es e)) hash file d ours s m o h k apart tested
 
 -- nothing does
-pub tests_pass : JoinedIsReached
-    → (hash : Alg → List ℕ → List ℕ) (file : List ℕ) (d : Definition) (ours : Ours) (s : ReadStore) (m : MediaFile) (o : OtherFile)
+pub tests_pass :
+    (hash : Alg → List ℕ → List ℕ) (file : List ℕ) (d : Definition) (ours : Ours) (s : ReadStore) (m : MediaFile)
+    (o : OtherFile)
     → IsOurs hash file ours m → IsTheirs hash s o → FilesApart m o
     → ((is_in : ℕ → Bool) → JoinedReaches (old_readings ours.store) (readings_of s) is_in → joined_tests d (collected_readings (old_readings ours.store) (readings_of s)) is_in ≡ [])
     → file_tests d m o ≡ []
-tests_pass law hash file d ours s m o h k apart tested =
-    joined_tested (λ es. es ≡ []) law hash file d ours s m o h k apart tested
+tests_pass hash file d ours s m o h k apart tested =
+    joined_tested (λ es. es ≡ []) hash file d ours s m o h k apart tested
 
 -- both files don't clash where their boxes were joined
 pub joined_apart :
@@ -201,13 +208,14 @@ some_kept of d clearing ours s j made digests joined names = record {
 }
 
 -- both files, which may be collected, are something to build over, whatever is known of them
-pub joined_ground : SomeContentCollects
-    → (of : List ℕ → List ℕ) (hash : Alg → List ℕ → List ℕ) (file : List ℕ) (d : Definition) (ours : Ours) (s : ReadStore) (m : MediaFile) (o : OtherFile) (j : JoinedBoxes) (made : Vec NewAssertion Global)
+pub joined_ground :
+    (of : List ℕ → List ℕ) (hash : Alg → List ℕ → List ℕ) (file : List ℕ) (d : Definition) (ours : Ours)
+    (s : ReadStore) (m : MediaFile) (o : OtherFile) (j : JoinedBoxes) (made : Vec NewAssertion Global)
     → HasDigestLen (new_alg d) of → IsOurs hash file ours m → IsTheirs hash s o → IsReadOrNone ours.store
     → AreJoined d.redact (old_boxes ours.store) (old_readings ours.store) (boxes_of s) (readings_of s) j
     → NameLast of d.redact (ingredient_stores ours.store s) made.items → file_tests d m o ≡ []
     → IsGroundOf of file d (IsJoinedStage d m o) (Ok (kept_of ours.clearing j made))
-joined_ground some of hash file d ours s m o j made digests h k read joined names none = (
+joined_ground of hash file d ours s m o j made digests h k read joined names none = (
   pair_of m o None,
   passed_stage d m o here.apart none,
   record {
@@ -235,7 +243,7 @@ joined_ground some of hash file d ours s m o j made digests h k read joined name
     can = can_collect hash d m o (can_join hash file ours s m o h k here.apart) none
 
     content : (c : Content) × CollectsFrom d m.boxes o.boxes m.readings o.readings c
-    content = some hash d m.boxes o.boxes m.readings o.readings can
+    content = what_is_collected_is_one_some hash d m.boxes o.boxes m.readings o.readings can
 
     same : content.1.named ≡ names.named
     same =

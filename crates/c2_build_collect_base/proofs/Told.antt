@@ -1,5 +1,6 @@
 -- The error of each refusal.
 use Rattle.std.proofs.Common.{◌≡◌, Option, Some, None, refl, sym, ap, ◌∙◌}
+use Rattle.c2_lemmas.proofs.Options.{same_some}
 use Rattle.c2_collect_spec.specs.Order.{CollectRefusal, bad_definition, bad_signature, label_clash, label_taken, media_refused, no_instance, open_box, other_refused, parent_fails, redaction_refused, reserve_too_small, store_too_large, too_many_manifests}
 use Rattle.c2_build_refusals.specs.declared.error.BuildError.{BuildError}
 use Rattle.c2_build_refusals.specs.declared.error.BuildError.TheVariants as build
@@ -38,10 +39,6 @@ told no_instance = refl
 told (too_many_manifests count) = refl
 told (store_too_large len) = refl
 told (reserve_too_small needed) = refl
-
--- a value is told by its option
-same_some : (a b : CollectRefusal) → Some a ≡ Some b → a ≡ b
-same_some a b e = cc (e)
 
 -- an error tells its refusal
 pub tells : ErrorsTellRefusals

@@ -19,11 +19,9 @@ use crate::stores::{Ours, ReadStore};
 use crate::types::Collector;
 use c2_base::{NoMemory, Text};
 use c2_build_refusals::{BuildBase, BuildError};
-use c2_chain::{labels_of_a_store_differ, one_reading};
-use c2_chain_spec::chains_join;
-use c2_collect_spec::{what_is_collected_is_one, what_is_joined_is_reached};
+use c2_chain::labels_of_a_store_differ;
 use c2_hash::Hashing;
-use c2_jumbf::{count, each_list_is_a_tree_or_not};
+use c2_jumbf::count;
 use c2_layout::Carried;
 use c2_new_file_spec::RefusedRedaction;
 use c2_parent::{
@@ -129,11 +127,6 @@ impl<'d, H: Hashing> Collector<'d, H> {
             IfOk result (IsSomeGround (H.digest_of (new_alg d)) d ours.now.clearing) }
         ensures inner { IfErr result IsInner }
     {
-        what_is_collected_is_one();
-        what_is_joined_is_reached();
-        chains_join();
-        one_reading();
-        each_list_is_a_tree_or_not();
         let redactions = match redactions_of(self.alloc, self.definition.redact.as_slice()) {
             Ok(redactions) => redactions,
             Err(NoMemory) => return Err(BuildError::NoMemory),

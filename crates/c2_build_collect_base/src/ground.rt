@@ -1,6 +1,7 @@
 // What a new file is built over, of a media file and of another file.
 ghost use Rattle.std.specs.Prelude.{◌≡◌, ℕ, List, IfOk, Some, map};
 ghost use Rattle.std.specs.Option.{ForSome};
+ghost use Rattle.c2_lemmas.specs.Stages.{Then};
 ghost use Rattle.c2_base.specs.Causes.{Rose};
 ghost use Rattle.c2_base.specs.Source.{ReadsSource};
 ghost use Rattle.c2_spec.specs.C2pa.Manifest.{IsStoreOf};
@@ -9,7 +10,7 @@ ghost use Rattle.c2_rules.specs.Asking.{HearsPanel};
 ghost use Rattle.c2_calls_spec.specs.Asks.{AsksKnown};
 ghost use Rattle.c2_new_file_spec.specs.Store.{new_alg};
 ghost use Rattle.c2_collect_spec.specs.Order.{MediaFile};
-ghost use Rattle.c2_collect_spec.specs.Outcomes.{IsJoinedStage, IsOtherStage, IsPairStage, Then};
+ghost use Rattle.c2_collect_spec.specs.Outcomes.{IsJoinedStage, IsOtherStage, IsPairStage};
 ghost use Rattle.c2_container.specs.Contained.{HasRootsInside};
 ghost use Rattle.c2_build_refusals.specs.Kinds.{build_heard};
 ghost use Rattle.c2_build_refusals.specs.Stages.{MediaKind};
@@ -26,12 +27,11 @@ use crate::types::Collector;
 use c2_base::{NoMemory, Source};
 use c2_build_base::{MediaRead, OlderStore, check_parent, opened_in};
 use c2_build_refusals::{BuildBase, BuildError};
-use c2_chain::{of_store, one_reading};
-use c2_chain_spec::a_store_is_rooted_at_its_last_manifest;
+use c2_chain::of_store;
 use c2_hash::Hashing;
 use c2_judge::Judge;
 use c2_opening::types::Media;
-use c2_validate::{Container, a_store_answers_for_its_file, one_opening};
+use c2_validate::{Container, a_store_answers_for_its_file};
 
 impl<'d, H: Hashing> Collector<'d, H> {
     // What a new file is built over, where this was read of the other file in this container.
@@ -61,9 +61,6 @@ impl<'d, H: Hashing> Collector<'d, H> {
             (AsksKnown (D.known other.old) (FileAsks H.digest_of))
             judges.old judges.new result }
     {
-        one_opening();
-        one_reading();
-        a_store_is_rooted_at_its_last_manifest();
         a_store_answers_for_its_file();
         let chain = match of_store(self.alloc, &read.tree, &read.store) {
             Ok(chain) => chain,
@@ -102,7 +99,6 @@ impl<'d, H: Hashing> Collector<'d, H> {
             (AsksKnown (D.known other.old) (FileAsks H.digest_of))
             judges.old judges.new result }
     {
-        one_opening();
         let read = match read_other(self.alloc, found) {
             Ok(read) => read,
             Err(error) => return Err(error),
@@ -131,7 +127,6 @@ impl<'d, H: Hashing> Collector<'d, H> {
             (AsksKnown (D.known other.old) (FileAsks H.digest_of))
             judges.old judges.new result }
     {
-        one_opening();
         let found = match open_other(self.alloc, other) {
             Ok(found) => found,
             Err(error) => return Err(error),
@@ -173,10 +168,6 @@ impl<'d, H: Hashing> Collector<'d, H> {
             (PairHears H.digest_of (A.known media.old) (D.known other.old) file.now)
             judges.old judges.new result }
     {
-        one_opening();
-        one_reading();
-        a_store_is_rooted_at_its_last_manifest();
-        a_store_answers_for_its_file();
         let chain = match of_store(self.alloc, &older.tree, &older.store) {
             Ok(chain) => chain,
             Err(NoMemory) => return Err(BuildError::NoMemory),

@@ -6,14 +6,13 @@ use Rattle.c2_spec.specs.Jpeg.Writing.{IsPacketStore}
 use Rattle.c2_spec.specs.Jumbf.Tree.{tree_bytes}
 use Rattle.c2_definition.specs.declared.types.Definition.{Definition}
 use Rattle.c2_definition.specs.declared.types.NewAssertion.{NewAssertion}
-use Rattle.c2_new_file_spec.specs.Built.{HasDigestLen, StoreSizeIsFixed}
+use Rattle.c2_new_file_spec.specs.Built.{HasDigestLen}
 use Rattle.c2_new_file_spec.specs.Store.{Content, new_alg, new_claim, new_store}
 use Rattle.c2_layout.specs.Parts.{AreParts, IsContent}
 use Rattle.c2_layout.specs.declared.carried.Carried.{Carried}
 use Rattle.c2_layout.specs.declared.parts.NewParts.{NewParts}
 use Rattle.c2_without_store.specs.Clears.{cleared}
 use Rattle.c2_without_store.specs.declared.clearing.Clearing.{Clearing}
-use Rattle.c2_new_file_spec.specs.Films.{BmffSizeIsFixed}
 use Rattle.c2_new_file_spec.specs.Places.{IsPlace, Place, bound_text, place_binding, place_start, place_store, put_bytes}
 use Rattle.c2_build_refusals.specs.Refusals.{Ground}
 use Rattle.c2_build_refusals.specs.declared.types.Draft.{Draft}
@@ -87,13 +86,14 @@ module _ (hash : List ℕ → List ℕ) (media : List ℕ) (d : Definition) (w :
 -- ---- over all bytes
 
 -- the store of what was drafted can go into packets
-pub draft_packs : StoreSizeIsFixed → BmffSizeIsFixed
-    → (hash : List ℕ → List ℕ) (known : Option (List ℕ)) (len : ℕ) (d : Definition) (w : Drafted) (parts : NewParts) (message store : List ℕ)
+pub draft_packs :
+    (hash : List ℕ → List ℕ) (known : Option (List ℕ)) (len : ℕ) (d : Definition) (w : Drafted)
+    (parts : NewParts) (message store : List ℕ)
     → HasDigestLen (new_alg d) hash
     → AreNewParts hash known d w parts → length message ≡ d.reserve → IsSmall hash len d w
     → IsMade d w.ground.carried parts message store → IsPacketStore store
-draft_packs law film hash known len d w parts message store digests are filled small made =
+draft_packs hash known len d w parts message store digests are filled small made =
     let own : d ≡ small.content.definition = sym small.is.definition in
-    store_packs law film hash small.content (new_alg d) w.point w.draft.start w.draft.length are.digest message store
+    store_packs hash small.content (new_alg d) w.point w.draft.start w.draft.length are.digest message store
     (ap new_alg own) digests are.sized (filled ∙ ap (λ (x : Definition). x.reserve) own) small.small
     (made hash small.content (point_binding (new_alg d) w.point w.draft.start w.draft.length are.digest) small.is (are.parts small.content small.is))

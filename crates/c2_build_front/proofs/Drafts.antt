@@ -18,7 +18,8 @@ use Rattle.c2_bmff_chunks.specs.Shifted.{shifted}
 use Rattle.c2_bmff_chunks.specs.declared.table.ChunkTable.{ChunkTable}
 use Rattle.c2_definition.specs.declared.types.Definition.{Definition}
 use Rattle.c2_new_signature.specs.Refusals.{reserve_needed}
-use Rattle.c2_new_signature.specs.Signed.{FillsOrNeedsMore, IsSigned}
+use Rattle.c2_new_signature.specs.Signed.{IsSigned}
+use Rattle.c2_new_signature.proofs.TheLaws.{a_message_fills_its_reserve_or_needs_more}
 use Rattle.c2_new_file_spec.specs.Fresh.{fresh_content}
 use Rattle.c2_new_file_spec.specs.Store.{new_alg, new_claim, new_store}
 use Rattle.c2_layout.specs.declared.parts.NewParts.{NewParts}
@@ -26,34 +27,41 @@ use Rattle.c2_new_file_spec.specs.Films.{AreOthers, new_bmff_binding, bmff_len}
 use Rattle.c2_bmff_binding_front.specs.Digests.{IsRootsDigest}
 use Rattle.c2_bmff_binding_front.specs.Putting.{range_of, with_blank, with_store}
 use Rattle.c2_bmff_binding_front.specs.declared.front.Front.{Front}
-use Rattle.c2_new_front_spec.specs.Fronts.{CoveredTextIsKnown, front_covered, front_store, moved_media, moved_roots}
+use Rattle.c2_new_front_spec.specs.Fronts.{front_covered, front_store, moved_media, moved_roots}
 use Rattle.c2_new_front_spec.specs.InFront.{front_place, front_with}
-use Rattle.c2_new_front_spec.specs.Order.{FrontRefusal, UnrefusedCanBePlanned, bmff_refusals, front_refusals, plan_refusals, reserve_refusals, reserve_too_small}
-use Rattle.c2_new_front_spec.specs.Outcomes.{IsBmffStage, IsMadeIn, IsMediaStage, IsNewFile, IsPlannedIn, NewFile, Then, front_signed, new_file}
+use Rattle.c2_new_front_spec.specs.Order.{FrontRefusal, bmff_refusals, front_refusals, plan_refusals, reserve_refusals, reserve_too_small}
+use Rattle.c2_new_front_spec.specs.Outcomes.{IsBmffStage, IsMadeIn, IsMediaStage, IsNewFile, IsPlannedIn, NewFile, front_signed, new_file}
 use Rattle.c2_new_front_spec.proofs.SomeOutcome.{FreeRoots, free_roots}
-use Rattle.c2_new_front_spec.proofs.Stages.{then_next, unless_passes}
+use Rattle.c2_new_front_spec.proofs.TheLaws.{a_front_is_refused_or_planned_planned, the_covered_text_is_known_first}
 use Rattle.c2_build_refusals.specs.declared.error.BuildError.{BuildError}
 use Rattle.c2_build_refusals.proofs.Outside.{outside_map}
 use Rattle.c2_build_refusals.specs.Refusals.{IsReserveRefusal}
-use Rattle.c2_build_front.proofs.Stages.{refused_next, unless_first}
+use Rattle.c2_build_front.proofs.Stages.{refused_next}
 use Rattle.c2_build_front.specs.Errors.{IsRefusedWith}
 use Rattle.c2_build_front.specs.Steps.{AreFrontParts, IsDrafted, IsDraftedOver, IsReady, IsReadyFor, box_len, store_size}
 use Rattle.c2_build_front.specs.declared.ready.Ready.{Ready}
+use Rattle.c2_lemmas.specs.Stages.{Then}
 use Rattle.c2_lemmas.proofs.Options.{never_some}
-use Rattle.c2_new_front_spec.proofs.Stages.{none_both}
+use Rattle.c2_lemmas.proofs.Stages.{then_next, unless_first, unless_passes}
+use Rattle.c2_lemmas.proofs.Lists.{none_both}
 
 -- ---- what is drafted
 
 -- a draft over a film of which nothing is refused
-pub drafted_over : UnrefusedCanBePlanned
-    → (media : List ℕ) (what : Opening Tree) (roots : List Box) (d : Definition) (f : Front) → AreBytes media
+pub drafted_over :
+    (media : List ℕ) (what : Opening Tree) (roots : List Box) (d : Definition) (f : Front) → AreBytes media
     → IsMediaStage media (Ok what) → bmff_refusals media what ≡ [] → HasRoots media roots → IsDrafted media roots d f
     → IsDraftedOver media what d f
-drafted_over law media what roots d f bytes stage none has is =
+drafted_over media what roots d f bytes stage none has is =
     let free : FreeRoots media = free_roots media what stage none in
     let others : AreOthers roots = subst AreOthers (roots_once media free.roots roots free.has_roots has) free.others in
-    record
-    { roots = roots; has_roots = has; film = none; can = law media roots d free.film bytes has others is.unrefused; is = is }
+    record {
+      roots = roots;
+      has_roots = has;
+      film = none;
+      can = a_front_is_refused_or_planned_planned media roots d free.film bytes has others is.unrefused;
+      is = is;
+    }
 
 -- the film stage of a draft
 bmff_stage : (media : List ℕ) (what : Opening Tree) (d : Definition) (f : Front) → (k : IsDraftedOver media what d f)
@@ -77,25 +85,25 @@ file_is media roots d f store is =
     is.tables
 
 -- the digest over a store of zero bytes is that of the covered text
-pub digest_is : CoveredTextIsKnown
-    → (hash : List ℕ → List ℕ) (digest media : List ℕ) (what : Opening Tree) (d : Definition) (f : Front)
+pub digest_is :
+    (hash : List ℕ → List ℕ) (digest media : List ℕ) (what : Opening Tree) (d : Definition) (f : Front)
     → (k : IsDraftedOver media what d f) → IsRootsDigest hash digest (with_blank f media)
     → digest ≡ hash (front_covered (box_len d) media k.roots)
-digest_is law hash digest media what d f k is =
+digest_is hash digest media what d f k is =
     let blank : List ℕ = replicate f.store_len 0 in
     let size : length blank ≡ store_size d = length-replicate {A = ℕ} f.store_len 0 ∙ k.is.store in
-    let t = law (fresh_content d) d.reserve media k.roots blank k.can.can size in
+    let t = the_covered_text_is_known_first (fresh_content d) d.reserve media k.roots blank k.can.can size in
     let roots : List Box = front_with blank (moved_roots (box_len d) media k.roots) in
     is roots (subst (λ (file : List ℕ). HasRoots file roots) (sym (file_is media k.roots d f blank k.is)) t.has_roots)
     ∙ ap hash t.text
 
 -- the new file over a store of zero bytes has root boxes
-pub roots_of_new : CoveredTextIsKnown → (media : List ℕ) (what : Opening Tree) (d : Definition) (f : Front)
+pub roots_of_new : (media : List ℕ) (what : Opening Tree) (d : Definition) (f : Front)
     → IsDraftedOver media what d f → (roots : List Box) × HasRoots (with_blank f media) roots
-roots_of_new law media what d f k =
+roots_of_new media what d f k =
     let blank : List ℕ = replicate f.store_len 0 in
     let size : length blank ≡ store_size d = length-replicate {A = ℕ} f.store_len 0 ∙ k.is.store in
-    let t = law (fresh_content d) d.reserve media k.roots blank k.can.can size in
+    let t = the_covered_text_is_known_first (fresh_content d) d.reserve media k.roots blank k.can.can size in
     let roots : List Box = front_with blank (moved_roots (box_len d) media k.roots) in
     (roots, subst (λ (file : List ℕ). HasRoots file roots) (sym (file_is media k.roots d f blank k.is)) t.has_roots)
 
@@ -122,13 +130,14 @@ planned_of hash media what d f p known tbs k parts is tbs_is =
 -- ---- a build
 
 -- a new file with a message that fills what is reserved is what a build comes to
-pub made_of : FillsOrNeedsMore
-    → (hash : Alg → List ℕ → List ℕ) (media : List ℕ) (what : Opening Tree) (d : Definition) (f : Front) (p : SignParts) (message : List ℕ)
+pub made_of :
+    (hash : Alg → List ℕ → List ℕ) (media : List ℕ) (what : Opening Tree) (d : Definition) (f : Front) (p : SignParts)
+    (message : List ℕ)
     → (k : IsDraftedOver media what d f) → IsSigned p d.reserve message
     → Then (IsBmffStage media what) (IsMadeIn hash media d p) (Ok (new_file hash media k.roots d message))
-made_of fills hash media what d f p message k signed =
+made_of hash media what d f p message k signed =
     let enough : reserve_needed d.reserve (length (bare_bytes p)) ≡ None =
-    never_some _ (λ n e. fills.never_both p d.reserve message signed (n, e)) in
+    never_some _ (λ n e. a_message_fills_its_reserve_or_needs_more.never_both p d.reserve message signed (n, e)) in
     let none : front_refusals media k.roots d p ≡ [] =
     none_both (plan_refusals media k.roots d) (reserve_refusals d p) k.is.unrefused
     (ap (λ (o : Option ℕ). option_to_list (option_map reserve_too_small o)) enough) in

@@ -3,6 +3,7 @@ use Rattle.c2_opening.proofs.TheLaws.{one_opening_file}
 use Rattle.std.proofs.Common.{◌≡◌, ℕ, ◌+◌, ◌≤◌, Bool, List, length, Option, refl, sym, ap, ◌∙◌, subst, arith}
 use Rattle.std.specs.Prelude.{Result, Ok, Err}
 use Rattle.std.specs.declared.option.Option.TheVariants.{Some}
+use Rattle.c2_lemmas.proofs.Stages.{passed}
 use Rattle.c2_spec.specs.Jumbf.Tree.{Tree}
 use Rattle.c2_spec.specs.Located.{Opening, refused, absent, here}
 use Rattle.c2_spec.specs.declared.digest.Alg.{Alg}
@@ -18,7 +19,6 @@ use Rattle.c2_spec.specs.Bmff.Writing.{c2pa_box}
 use Rattle.c2_new_front_spec.specs.Order.{FrontRefusal}
 use Rattle.c2_new_front_spec.specs.Outcomes.{IsFrontMade, IsMadeOver, IsOpenedOnce, NewFile}
 use Rattle.c2_new_front_spec.specs.Outcomes as front
-use Rattle.c2_new_front_spec.proofs.Stages.{passed}
 use Rattle.c2_build_refusals.specs.declared.error.BuildError.{BuildError}
 use Rattle.c2_build_refusals.specs.Stages.{IsDefinitionTold, IsMediaStage, MediaKind, fresh, stored}
 use Rattle.c2_build_refusals.proofs.Inputs.{not_both_media, told_where_due}

@@ -4,6 +4,7 @@ use Rattle.std.specs.Prelude.{option_map}
 use Rattle.std.specs.List.{flat_map}
 use Rattle.std.specs.Option.{option_to_list}
 use Rattle.std.proofs.lemmas.Bool.{le-leb, le-ltb, lt-leb, lt-ltb}
+use Rattle.c2_lemmas.proofs.Lists.{none_both}
 use Rattle.c2_base.specs.declared.limits.TheConstants.{FILE_LEN_LIMIT, MAX_ROOT_BOXES, MAX_STORE_LEN}
 use Rattle.c2_spec.specs.Bmff.Boxes.{Box}
 use Rattle.c2_spec.specs.declared.reason.Reason.TheVariants.{FileTooLarge, TooManyBoxes}
@@ -25,7 +26,6 @@ use Rattle.c2_build_refusals.specs.declared.error.BuildError.{BuildError}
 use Rattle.c2_build_refusals.specs.declared.error.BuildError.TheVariants as build
 use Rattle.c2_build_front.specs.Steps.{IsFirstError, IsPlanStep, error_of_shift, box_len, store_size}
 use Rattle.c2_new_front_spec.proofs.Order.{test_none}
-use Rattle.c2_new_front_spec.proofs.Stages.{none_both}
 
 -- ---- lists one after the other
 

@@ -1,6 +1,8 @@
 -- The stages of a build in front of a BMFF file, by what the steps of a build say of its inputs.
-use Rattle.std.proofs.Common.{◌≡◌, inl, inr, ℕ, Bool, true, false, cond, not, ◌&&◌, List, [], ◌∷◌, ◌++◌, refl, sym, ap, subst}
+use Rattle.std.proofs.Common.{◌≡◌, inl, inr, ℕ, Bool, true, false, cond, not, ◌&&◌, List, [], ◌∷◌, ◌++◌, refl, ap}
 use Rattle.std.specs.Prelude.{Result, Ok, Err}
+use Rattle.c2_lemmas.specs.Stages.{Then}
+use Rattle.c2_lemmas.proofs.Stages.{stage_error, stage_value, unless_first, unless_passes}
 use Rattle.c2_spec.specs.Bmff.Boxes.{Box, HasRoots, begins_bmff}
 use Rattle.c2_spec.specs.C2pa.Sign1.{SignParts}
 use Rattle.c2_spec.specs.Container.{begins_jpeg, is_bmff}
@@ -10,15 +12,12 @@ use Rattle.c2_spec.specs.declared.digest.Alg.{Alg}
 use Rattle.c2_rules.specs.Opened.{IsOpened}
 use Rattle.c2_definition.specs.DefinitionFile.{IsDefinition}
 use Rattle.c2_definition.specs.declared.types.Definition.{Definition}
-use Rattle.c2_definition.specs.declared.types.DefinitionField.{DefinitionField}
-use Rattle.c2_new_signature.specs.declared.error.SignaturePart.{SignaturePart}
 use Rattle.c2_new_front_spec.specs.Order.{FrontRefusal, bad_definition, bad_signature, bmff_refusals, has_store, media_refused, not_bmff, plan_refusals, reserve_refusals, store_refusals}
-use Rattle.c2_new_front_spec.specs.Outcomes.{IsBmffStage, IsMadeIn, IsNewFile, IsPlannedIn, Then, Unless, front_signed}
+use Rattle.c2_new_front_spec.specs.Outcomes.{IsBmffStage, IsMadeIn, IsNewFile, IsPlannedIn, front_signed}
 use Rattle.c2_new_signature.specs.Message.{IsMessageRead}
 use Rattle.c2_new_front_spec.specs.Outcomes as front
-use Rattle.c2_new_front_spec.proofs.Stages.{unless_passes}
 use Rattle.c2_build_refusals.proofs.Outside.{outside_map}
-use Rattle.c2_build_refusals.specs.Stages.{IsDefinitionStage, IsMediaStage, IsMessageStage, MediaKind, definition_stage, fresh, media_stage, message_stage, stored}
+use Rattle.c2_build_refusals.specs.Stages.{IsDefinitionStage, IsMediaStage, IsMessageStage, MediaKind, fresh, media_stage, stored}
 use Rattle.c2_build_refusals.specs.declared.error.BuildError.{BuildError}
 use Rattle.c2_build_refusals.specs.declared.error.BuildError.TheVariants as build
 use Rattle.c2_build_front.proofs.First.{first_behind}
@@ -53,44 +52,26 @@ media_error media e s = by s.0 s.1 s.2
 
 -- a definition is one
 pub defined_as : (file : List ℕ) (d : Definition) → IsDefinitionStage file (Ok d) → front.IsDefinitionStage file (Ok d)
-defined_as file d s = by s.0 s.1 s.2
-  where
-    by : (r : Result Definition DefinitionField) → IsDefinition file r
-        → ◌≡◌ {A = Result Definition BuildError} (Ok d) (definition_stage r) → front.IsDefinitionStage file (Ok d)
-    by (Ok x) is e = (Ok x, is, cc (e))
-    by (Err field) is e = absurd (cc (e))
+defined_as file d s = (Ok d, stage_value build.BadDefinition (IsDefinition file) d s, refl)
 
 -- a definition file that is refused is refused with its error
 pub definition_error : (file : List ℕ) (e : BuildError) → IsDefinitionStage file (Err e)
     → IsRefusedWith (front.IsDefinitionStage file) e
-definition_error file e s = by s.0 s.1 s.2
-  where
-    by : (r : Result Definition DefinitionField) → IsDefinition file r
-        → ◌≡◌ {A = Result Definition BuildError} (Err e) (definition_stage r)
-        → IsRefusedWith (front.IsDefinitionStage file) e
-    by (Ok x) is same = absurd (cc (same))
-    by (Err field) is same = (bad_definition field, (Err field, is, refl), cc (same))
+definition_error file e s =
+    let f = stage_error build.BadDefinition (IsDefinition file) e s in
+    (bad_definition f.0, (Err f.0, f.1, refl), f.2)
 
 -- a message is one
 pub message_as : (protected bytes : List ℕ) (p : SignParts) → IsMessageStage protected bytes (Ok p)
     → front.IsMessageStage protected bytes (Ok p)
-message_as protected bytes p s = by s.0 s.1 s.2
-  where
-    by : (r : Result SignParts SignaturePart) → IsMessageRead protected bytes r
-        → ◌≡◌ {A = Result SignParts BuildError} (Ok p) (message_stage r) → front.IsMessageStage protected bytes (Ok p)
-    by (Ok x) is e = (Ok x, is, cc (e))
-    by (Err test) is e = absurd (cc (e))
+message_as protected bytes p s = (Ok p, stage_value build.BadSignature (IsMessageRead protected bytes) p s, refl)
 
 -- a message that is refused is refused with its error
 pub message_error : (protected bytes : List ℕ) (e : BuildError) → IsMessageStage protected bytes (Err e)
     → IsRefusedWith (front.IsMessageStage protected bytes) e
-message_error protected bytes e s = by s.0 s.1 s.2
-  where
-    by : (r : Result SignParts SignaturePart) → IsMessageRead protected bytes r
-        → ◌≡◌ {A = Result SignParts BuildError} (Err e) (message_stage r)
-        → IsRefusedWith (front.IsMessageStage protected bytes) e
-    by (Ok x) is same = absurd (cc (same))
-    by (Err test) is same = (bad_signature test, (Err test, is, refl), cc (same))
+message_error protected bytes e s =
+    let f = stage_error build.BadSignature (IsMessageRead protected bytes) e s in
+    (bad_signature f.0, (Err f.0, f.1, refl), f.2)
 
 -- ---- one stage after the other
 
@@ -116,14 +97,6 @@ answer_next First Next a (Ok b) first h = record { first = Ok a; is_first = firs
 answer_next First Next a (Err e) first h = outside_map e (refused_next First Next a e first) h
 
 -- ---- the film
-
--- the first of a list is what refuses
-pub unless_first :
-    {A : Type 0} (es : List FrontRefusal) (Next : Result A FrontRefusal → Type 0) (refusal : FrontRefusal)
-    (others : List FrontRefusal)
-    → es ≡ refusal ∷ others → Unless es Next (Err refusal)
-unless_first {A} es Next refusal others is =
-    subst (λ (xs : List FrontRefusal). Unless {A = A} xs Next (Err refusal)) (sym is) refl
 
 -- a JPEG file is no BMFF file
 pub jpeg_first : (media : List ℕ) (what : Opening Tree) → begins_jpeg media ≡ true

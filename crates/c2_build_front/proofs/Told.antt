@@ -1,5 +1,6 @@
 -- The error of each refusal.
 use Rattle.std.proofs.Common.{◌≡◌, Option, Some, None, refl, sym, ap, ◌∙◌}
+use Rattle.c2_lemmas.proofs.Options.{same_some}
 use Rattle.c2_new_front_spec.specs.Order.{FrontRefusal, bad_definition, bad_signature, bad_table, bad_tree, has_store, media_refused, not_bmff, offset_table, open_box, overflow, redaction_refused, reserve_too_small, store_too_large}
 use Rattle.c2_build_refusals.specs.declared.error.BuildError.{BuildError}
 use Rattle.c2_build_refusals.specs.declared.error.BuildError.TheVariants as build
@@ -39,10 +40,6 @@ told (bad_table at) = refl
 told (store_too_large len) = refl
 told (overflow at) = refl
 told (reserve_too_small needed) = refl
-
--- a value is told by its option
-same_some : (a b : FrontRefusal) → Some a ≡ Some b → a ≡ b
-same_some a b e = cc (e)
 
 -- an error tells its refusal
 pub tells : ErrorsTellRefusals

@@ -4,6 +4,7 @@ use Rattle.std.specs.declared.option.Option.{Option}
 use Rattle.std.specs.declared.result.Result.{Result}
 use Rattle.std.specs.declared.result.Result.TheVariants.{Ok, Err}
 use Rattle.std.specs.Option.{ForSome}
+use Rattle.c2_lemmas.specs.Stages.{Then}
 use Rattle.c2_base.specs.declared.limits.TheConstants.{FILE_LEN_LIMIT, MAX_STORE_LEN}
 use Rattle.c2_spec.specs.Bmff.Boxes.{Box, HasRoots, box_bytes}
 use Rattle.c2_spec.specs.Bmff.Writing.{c2pa_box, c2pa_frame_len}
@@ -25,7 +26,7 @@ use Rattle.c2_bmff_binding_front.specs.declared.front.Front.{Front}
 use Rattle.c2_new_front_spec.specs.Fronts.{front_covered, tables_of}
 use Rattle.c2_new_front_spec.specs.InFront.{front_place}
 use Rattle.c2_new_front_spec.specs.Order.{CanPlanFront, FrontRefusal, bmff_refusals, plan_refusals}
-use Rattle.c2_new_front_spec.specs.Outcomes.{IsBmffStage, IsFrontMade, IsMadeIn, IsMessageStage, NewFile, Then}
+use Rattle.c2_new_front_spec.specs.Outcomes.{IsBmffStage, IsFrontMade, IsMadeIn, IsMessageStage, NewFile}
 use Rattle.c2_build_refusals.specs.Kinds.{IsReadKind, WithoutFault, kind_of}
 use Rattle.c2_build_refusals.specs.Stages.{HasTextsIn, IsDefinitionTold, IsMessageTold}
 use Rattle.c2_build_refusals.specs.declared.error.BuildError.{BuildError}

@@ -13,7 +13,6 @@ use c2_base::{Sink, Source};
 use c2_bmff_binding_front::FRAME_LEN;
 use c2_build_refusals::{BuildError, Embedded};
 use c2_build_writing::copy_fault;
-use c2_definition::each_definition_is_read_one_way;
 use c2_hash::Hashing;
 use std::alloc::Global;
 
@@ -54,7 +53,6 @@ pub fn embed_front<A: Source, B: Source, C: Source, K: Sink, H: Hashing>(
     ensures sink { WritesOut K.written K.faults K.finished out.old out.new result }
     ensures spare { FitsOut (K.spare out.old) (A.len media.old) result }
 {
-    each_definition_is_read_one_way();
     let mut ready = match prepare(alloc, hashing, media, definition, signature) {
         Ok(ready) => ready,
         Err(error) => return Err(error),

@@ -1,12 +1,13 @@
 // What is to be signed of a new manifest whose store stands in front.
 ghost use Rattle.std.specs.Prelude.{◌≡◌, ℕ, List};
 ghost use Rattle.std.specs.Option.{ForSome};
+ghost use Rattle.c2_lemmas.specs.Stages.{Then};
 ghost use Rattle.c2_base.specs.Source.{ReadsSource};
 ghost use Rattle.c2_container.specs.Contained.{IsWithin};
 ghost use Rattle.c2_build_endings.specs.Sources.{ReadsPlanned, use_of};
 ghost use Rattle.c2_definition.specs.DefinitionFile.{IsWellFormed};
 ghost use Rattle.c2_bmff_binding_front.specs.Putting.{FitsIn};
-ghost use Rattle.c2_new_front_spec.specs.Outcomes.{IsBmffStage, IsFrontPlanned, IsPlannedIn, Then};
+ghost use Rattle.c2_new_front_spec.specs.Outcomes.{IsBmffStage, IsFrontPlanned, IsPlannedIn};
 ghost use Rattle.c2_build_base.specs.Grounds.{IsFoundIn, IsKind, IsReadIn};
 ghost use Rattle.c2_build_refusals.specs.Stages.{IsDefinitionTold, IsMediaRefused, MediaKind};
 ghost use Rattle.c2_spec.specs.Jumbf.Tree.{Tree};
@@ -23,9 +24,8 @@ use c2_bmff_binding_front::Front;
 use c2_build_base::{MediaRead, open_media, read_media};
 use c2_build_refusals::{BuildError, read_definition_file, signed_over};
 use c2_container::Contained;
-use c2_definition::{Definition, each_definition_is_read_one_way};
+use c2_definition::Definition;
 use c2_hash::Hashing;
-use c2_validate::one_opening;
 use std::alloc::Global;
 
 // What is to be signed, of what was drafted over a media file.
@@ -101,7 +101,6 @@ fn plan_in<A: Source, B: Source, H: Hashing>(
         (use_of A.len A.known A.faults media.old media.new)
         (use_of B.len B.known B.faults definition.old definition.new) result }
 {
-    each_definition_is_read_one_way();
     let read = match read_media(alloc, file) {
         Ok(read) => read,
         Err(error) => return Err(error),
@@ -142,7 +141,6 @@ pub fn plan_front<A: Source, B: Source, H: Hashing>(
         (use_of A.len A.known A.faults media.old media.new)
         (use_of B.len B.known B.faults definition.old definition.new) result }
 {
-    one_opening();
     let file = match open_media(alloc, media) {
         Ok(file) => file,
         Err(error) => return Err(error),

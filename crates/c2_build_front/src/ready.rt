@@ -1,13 +1,14 @@
 // What is ready to be written in front of a film, before anything is.
 ghost use Rattle.std.specs.Prelude.{◌≡◌, IfErr, IfOk, length};
 ghost use Rattle.std.specs.Option.{ForSome};
+ghost use Rattle.c2_lemmas.specs.Stages.{Then};
 ghost use Rattle.c2_base.specs.Causes.{Rose};
 ghost use Rattle.c2_base.specs.Source.{ReadsSource};
 ghost use Rattle.c2_container.specs.Contained.{IsWithin};
 ghost use Rattle.c2_build_endings.specs.Sources.{ReadsSigned, use_of};
 ghost use Rattle.c2_definition.specs.DefinitionFile.{IsWellFormed};
 ghost use Rattle.c2_bmff_binding_front.specs.Putting.{FitsIn};
-ghost use Rattle.c2_new_front_spec.specs.Outcomes.{IsBmffStage, IsMadeIn, Then, new_file};
+ghost use Rattle.c2_new_front_spec.specs.Outcomes.{IsBmffStage, IsMadeIn, new_file};
 ghost use Rattle.c2_build_base.specs.Grounds.{IsFoundIn, IsKind, IsReadIn};
 ghost use Rattle.c2_build_refusals.specs.Kinds.{SaysNothing};
 ghost use Rattle.c2_build_refusals.specs.Stages.{LeavesUndue, MediaKind};
@@ -28,14 +29,11 @@ use c2_base::{Blob, NoMemory, Source};
 use c2_bmff_binding_front::Front;
 use c2_build_base::{MediaRead, open_media, read_media};
 use c2_build_refusals::{BuildError, padded, read_definition_file, read_message_file};
-use c2_cbor_spec::one_item;
 use c2_container::Contained;
 use c2_definition::Definition;
 use c2_hash::Hashing;
 use c2_layout::{Carried, new_store};
-use c2_new_signature::each_message_is_accepted_or_refused_for_one_test;
 use c2_sigstruct::Sign1;
-use c2_validate::one_opening;
 use std::alloc::Global;
 
 /// All that is needed to write a new file; no memory is taken from here on.
@@ -161,8 +159,6 @@ impl<'h, H: Hashing> Builder<'h, H> {
             (IsPrepareCause (Rose (A.faults media.old) (A.faults media.new)))
             signature.old signature.new result }
     {
-        one_item();
-        each_message_is_accepted_or_refused_for_one_test();
         let sign = match read_message_file(self.alloc, definition.protected.as_slice(), signature) {
             Ok(sign) => sign,
             Err(error) => return Err(error),
@@ -241,7 +237,6 @@ pub(crate) fn prepare<A: Source, B: Source, C: Source, H: Hashing>(
         (use_of B.len B.known B.faults definition.old definition.new)
         (use_of C.len C.known C.faults signature.old signature.new) result }
 {
-    one_opening();
     let builder = Builder { alloc, hashing };
     let file = match open_media(alloc, media) {
         Ok(file) => file,

@@ -6,13 +6,12 @@ use Rattle.c2_spec.specs.Jpeg.Writing.{IsPacketStore, packets_bytes}
 use Rattle.c2_spec.specs.Jumbf.Tree.{tree_bytes}
 use Rattle.c2_spec.specs.PutIn.{put_in}
 use Rattle.c2_spec.specs.declared.digest.Alg.{Alg}
-use Rattle.c2_new_file_spec.specs.Built.{HasDigestLen, StoreSizeIsFixed, bound_len}
+use Rattle.c2_new_file_spec.specs.Built.{HasDigestLen, bound_len}
 use Rattle.c2_new_file_spec.specs.Store.{Content, data_binding, new_alg, new_manifest, new_store}
 use Rattle.c2_new_file_spec.proofs.BuiltLemmas.{packet_store}
 use Rattle.c2_without_store.specs.Clears.{cleared, cleared_len}
 use Rattle.c2_without_store.specs.Lengths.{cleared_size}
 use Rattle.c2_without_store.specs.declared.clearing.Clearing.{Clearing}
-use Rattle.c2_new_file_spec.specs.Films.{BmffSizeIsFixed}
 use Rattle.c2_new_file_spec.specs.Places.{IsPlace, Place, binding_with, bound_text, in_boxes, in_segments, place_binding, place_file, place_start, put_bytes, range_len}
 use Rattle.c2_build_refusals.specs.Refusals.{new_store_len}
 use Rattle.c2_build_refusals.specs.InsertPoints.{IsInsertPoint}
@@ -68,19 +67,20 @@ file_is media base r p is start =
     ap (λ (n : ℕ). put_in n bytes base) start ∙ ap (put_in r.draft.start bytes) is
 
 -- the store of a new file can go into packets
-pub store_packs : StoreSizeIsFixed → BmffSizeIsFixed
-    → (hash : List ℕ → List ℕ) (c : Content) (alg : Alg) (s : InsertPoint) (start len : ℕ) (digest message store : List ℕ)
+pub store_packs :
+    (hash : List ℕ → List ℕ) (c : Content) (alg : Alg) (s : InsertPoint) (start len : ℕ)
+    (digest message store : List ℕ)
     → alg ≡ new_alg c.definition → HasDigestLen alg hash → length digest ≡ digest_len alg
     → length message ≡ c.definition.reserve
     → point_store_len s c ≤ MAX_STORE_LEN
     → store ≡ tree_bytes (new_store hash c (point_binding alg s start len digest) message) → IsPacketStore store
-store_packs law film hash c alg s start len digest message store own digests sized filled small is =
+store_packs hash c alg s start len digest message store own digests sized filled small is =
     let tree : List ℕ = tree_bytes (new_store hash c (point_binding alg s start len digest) message) in
     let size : length tree ≡ point_size s c (length message) =
     subst
     (λ (a : Alg). HasDigestLen a hash → length digest ≡ digest_len a → length (tree_bytes (new_store hash c (point_binding a s start len digest) message)) ≡ point_size s c (length message))
     (sym own)
-    (point_fixed law film hash c s start len digest message) digests sized in
+    (point_fixed hash c s start len digest message) digests sized in
     let reserved : point_size s c (length message) ≡ point_store_len s c =
     ap (point_size s c) filled ∙ point_size_is s c in
     subst IsPacketStore (sym is)

@@ -1,6 +1,7 @@
 -- What is answered, and what is written, once a new file is ready or isn't.
 use Rattle.std.proofs.Common.{◌≡◌, ◌⊎◌, inl, inr, ℕ, Bool, List, Option, sym, ap, ◌∙◌, subst}
 use Rattle.std.specs.Prelude.{Result, Ok, Err}
+use Rattle.c2_lemmas.proofs.Stages.{then_first}
 use Rattle.c2_base.specs.declared.values.Question.{Question}
 use Rattle.c2_spec.specs.declared.digest.Alg.{Alg}
 use Rattle.c2_spec.specs.declared.panel.Verdict.{Verdict}
@@ -11,14 +12,13 @@ use Rattle.c2_build_writing.specs.Puts.{copy_fault_of}
 use Rattle.c2_build_refusals.specs.Stages.{IsMediaRefused, IsMediaStage}
 use Rattle.c2_build_refusals.specs.declared.error.BuildError.{BuildError}
 use Rattle.c2_build_refusals.specs.declared.types.Embedded.{Embedded}
-use Rattle.c2_build_refusals.proofs.Stages.{then_first}
 use Rattle.c2_build_plain.specs.Answers.{EmbedsFile, HasRange, Writes, file_of}
 use Rattle.c2_build_plain.specs.Building.{Built, IsEmbedded}
-use Rattle.c2_build_plain.specs.Meeting.{OneEmbedding}
 use Rattle.c2_build_plain.specs.Steps.{IsReady}
 use Rattle.c2_build_in_place.specs.Writings.{ready_file}
 use Rattle.c2_build_in_place.specs.declared.writing.Ready.{Ready}
 use Rattle.c2_build_in_place.proofs.Endings.{begun}
+use Rattle.c2_build_plain.proofs.TheLaws.{a_build_comes_to_one_thing_embedding}
 
 -- ---- the file is written
 
@@ -35,18 +35,18 @@ same_file Is one media r b bytes is ready w = sym ready.file ∙ ap file_of (one
 
 -- what is written where the new file was begun is the new file, or a prefix of it
 pub broken_off : {K : Type 0} (written : K → Option (List ℕ)) (spare : K → Option ℕ) (finished : K → Bool)
-    → OneEmbedding
-    → (hash : Alg → List ℕ → List ℕ) (said : Question → Verdict) (media definition message : List ℕ) (r : Ready) (b : Built) (old new : K)
-    (e : CopyError) (f : BuildError) → f ≡ copy_fault_of e → IsEmbedded hash said media definition message (Ok b)
+    (hash : Alg → List ℕ → List ℕ) (said : Question → Verdict) (media definition message : List ℕ) (r : Ready)
+    (b : Built) (old new : K) (e : CopyError) (f : BuildError) → f ≡ copy_fault_of e
+    → IsEmbedded hash said media definition message (Ok b)
     → IsReady media r b → Breaks written spare finished (ready_file r media) old new (ending_of e)
     → EmbedsFile written spare finished hash said media definition message old new (Err f)
-broken_off {K} written spare finished law hash said media definition message r b old new e f same is ready h =
+broken_off {K} written spare finished hash said media definition message r b old new e f same is ready h =
     subst (λ (x : BuildError). EmbedsFile written spare finished hash said media definition message old new (Err x))
     (sym same) (by e h)
   where
     one : (x y : Result Built BuildError) → IsEmbedded hash said media definition message x
         → IsEmbedded hash said media definition message y → x ≡ y
-    one x y = law hash said media definition message x y
+    one x y = a_build_comes_to_one_thing_embedding hash said media definition message x y
 
     wrote : (c : CopyError) → Breaks written spare finished (ready_file r media) old new (ending_of c)
         → WritesFile written spare finished (Writes (IsEmbedded hash said media definition message)) old new (ending_of c)
@@ -63,9 +63,12 @@ broken_off {K} written spare finished law hash said media definition message r b
 -- ---- the definition
 
 -- the bytes of the definition file are known where a new file was made
-pub told_of_file : OneEmbedding
-    → (hash : Alg → List ℕ → List ℕ) (said : Question → Verdict) (media definition message : List ℕ) (b : Built)
+pub told_of_file :
+    (hash : Alg → List ℕ → List ℕ) (said : Question → Verdict) (media definition message : List ℕ) (b : Built)
     → IsEmbedded hash said media definition message (Ok b) → {P : Type 0} → P ⊎ IsMediaRefused media → P
-told_of_file one hash said media definition message b is (inl told) = told
-told_of_file one hash said media definition message b is (inr refused) =
-    absurd (let bad = one hash said media definition message (Ok b) (Err refused.0) is (then_first (IsMediaStage media) _ refused.0 refused.1) in cc (bad))
+told_of_file hash said media definition message b is (inl told) = told
+told_of_file hash said media definition message b is (inr refused) =
+    let bad =
+    a_build_comes_to_one_thing_embedding hash said media definition message (Ok b) (Err refused.0) is
+    (then_first (IsMediaStage media) _ refused.0 refused.1) in
+    absurd (cc (bad))

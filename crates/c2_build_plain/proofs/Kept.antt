@@ -22,15 +22,15 @@ use Rattle.c2_rules.specs.CheckList.{check_list}
 use Rattle.c2_rules.specs.Opened.{IsBoxTree, IsManifestStore, IsManifestTree, IsOpened, Opens}
 use Rattle.c2_rules.specs.Tests.{first_failing}
 use Rattle.c2_definition.specs.declared.types.Definition.{Definition}
-use Rattle.c2_bmff_insert_spec.specs.Laws.{EndIsCutOut}
+use Rattle.c2_bmff_insert_spec.proofs.TheLaws.{a_base_has_no_store_cut}
 use Rattle.c2_new_file_spec.specs.Bases.{IsLeft, IsLeftOfBoxes}
 use Rattle.c2_build_refusals.specs.Stages.{IsGroundOver, IsGroundStage, IsMediaStage, MediaKind, fresh, fresh_ground, stored}
 use Rattle.c2_build_plain.specs.Meeting.{IsFreedIn, IsLessStore, KeepsBytes, cut_out, made_free}
 use Rattle.c2_build_refusals.specs.Refusals.{Ground, first_refusal, older_tests, redaction_tests}
 use Rattle.c2_build_refusals.proofs.Passing.{ground_of, opened_here}
-use Rattle.c2_build_refusals.proofs.Stages.{unless_passed}
 use Rattle.c2_bmff_insert_spec.proofs.Bases.{freed_len, is_freed}
 use Rattle.c2_lemmas.proofs.Each.{each_back}
+use Rattle.c2_lemmas.proofs.Stages.{unless_some_passed}
 use Rattle.c2_spec.proofs.BmffShared.{parts_are}
 
 -- ---- one box among boxes
@@ -85,11 +85,11 @@ other_roots : (xs : List Box) (b : Box) (ys : List Box) → is_file_end ys ≡ f
 other_roots xs b ys e = ap (λ (t : Bool). cond t (xs ++ ys) (xs ++ freed b ∷ ys)) e
 
 -- the root boxes without the one that holds a store are the file less it, or have it freed
-roots_keep : EndIsCutOut → (media base : List ℕ) (boxes : List Box) (start len : ℕ) (store : List ℕ)
+roots_keep : (media base : List ℕ) (boxes : List Box) (start len : ℕ) (store : List ℕ)
     → HasRoots media boxes
     → (h : HoldsBmffStore boxes start len store) → base ≡ flat_map box_bytes (base_roots h.before h.holder h.after)
     → IsLessStore media start len base
-roots_keep cut media base boxes start len store r h is = by (is_file_end h.after) refl
+roots_keep media base boxes start len store r h is = by (is_file_end h.after) refl
   where
     split_boxes : AllByRecursion IsBox (h.before ++ h.holder ∷ h.after)
     split_boxes = subst (AllByRecursion IsBox) h.split (form_boxes boxes r.forms)
@@ -105,14 +105,14 @@ roots_keep cut media base boxes start len store r h is = by (is_file_end h.after
         (subst (λ (n : ℕ). IsFreedIn media (boxes_len h.before) n base) (sym h.for) (freed_keeps media base h.before h.holder h.after own was now))
 
     by : (t : Bool) → is_file_end h.after ≡ t → IsLessStore media start len base
-    by true e = cut_out (is ∙ cut media boxes start len store r h e)
+    by true e = cut_out (is ∙ a_base_has_no_store_cut media boxes start len store r h e)
     by false e = made_free (made e)
 
 -- the base of a BMFF file with a store in this range is that
-bmff_keeps : EndIsCutOut → (media base : List ℕ) (roots : List Box) (start len : ℕ) (store : List ℕ)
+bmff_keeps : (media base : List ℕ) (roots : List Box) (start len : ℕ) (store : List ℕ)
     → HasBmffStore media start len store
     → IsBmffBase media base roots → IsLessStore media start len base
-bmff_keeps cut media base roots start len store has h = by h.are
+bmff_keeps media base roots start len store has h = by h.are
   where
     by : AreBaseRoots h.boxes roots → IsLessStore media start len base
     by (same others e) =
@@ -121,7 +121,7 @@ bmff_keeps cut media base roots start len store has h = by h.are
     by (without s n text holds e) =
         let other : HasBmffStore media s n text = record { roots = h.boxes; has_roots = h.has_roots; holds = holds } in
         let once = stores_once media s n start len text store other has in
-        let left = roots_keep cut media base h.boxes s n text h.has_roots holds (h.bytes ∙ ap (flat_map box_bytes) e) in
+        let left = roots_keep media base h.boxes s n text h.has_roots holds (h.bytes ∙ ap (flat_map box_bytes) e) in
         subst (λ (x : ℕ). IsLessStore media x len base) once.0
         (subst (λ (x : ℕ). IsLessStore media s x base) once.1 left)
 
@@ -145,31 +145,31 @@ located_here (here at n store) start len t h = (store, by h.0 h.1 h.2)
         (ap₂ (λ (x y : ℕ). here x y store) begin size, a.0.whole ∙ ap tree_bytes tree)
 
 -- what is left of a media file keeps the bytes outside the range of its store
-left_keeps : EndIsCutOut → (media : List ℕ) (start len : ℕ) (t : Tree) (base : List ℕ)
+left_keeps : (media : List ℕ) (start len : ℕ) (t : Tree) (base : List ℕ)
     → IsOpened media (here start len t)
     → IsLeft media start len base → IsLessStore media start len base
-left_keeps cut media start len t base o left =
+left_keeps media start len t base o left =
     let at = located_here o.0 start len t o.2 in
     by at.0 (is_bmff media) (subst (IsLocated media) at.1.0 o.1) left
   where
     by : (store : List ℕ) (b : Bool)
         → MatchBool b (HasBmffStore media start len store) (jpeg.HasJpegStore media start len store)
         → MatchBool b (IsLeftOfBoxes media base) (base ≡ taken_out start len media) → IsLessStore media start len base
-    by store true h k = bmff_keeps cut media base k.0 start len store h k.1
+    by store true h k = bmff_keeps media base k.0 start len store h k.1
     by store false h k = cut_out k
 
 -- what a new file is built over keeps the bytes of its media
-pub ground_keeps : EndIsCutOut
-    → (hash : Alg → List ℕ → List ℕ) (said : Question → Verdict) (media : List ℕ) (d : Definition)
+pub ground_keeps :
+    (hash : Alg → List ℕ → List ℕ) (said : Question → Verdict) (media : List ℕ) (d : Definition)
     (kind : MediaKind) (g : Ground) → IsMediaStage media (Ok kind) → IsGroundStage hash said media d kind (Ok g)
     → KeepsBytes media kind g.base
-ground_keeps cut hash said media d fresh g m h =
-    let is = unless_passed (first_refusal (redaction_tests d [])) (λ r. r ≡ Ok (fresh_ground media d)) g h in
+ground_keeps hash said media d fresh g m h =
+    let is = unless_some_passed (first_refusal (redaction_tests d [])) (λ r. r ≡ Ok (fresh_ground media d)) g h in
     let same_ground : fresh_ground media d ≡ g = cc (is.1) in
     ap (λ (x : Ground). x.base) (sym same_ground)
-ground_keeps cut hash said media d (stored start len t) g m h =
+ground_keeps hash said media d (stored start len t) g m h =
     let tests = first_refusal (older_tests d h.0.readings (first_failing (check_list hash said h.0))) in
-    let is = unless_passed tests (IsGroundOver media d start len t h.0.readings) g h.2 in
+    let is = unless_some_passed tests (IsGroundOver media d start len t h.0.readings) g h.2 in
     let same_ground : ground_of is.1.2.0 is.1.0 (length h.0.readings + 1) ≡ g = cc (is.1.2.2) in
-    let kept = left_keeps cut media start len t is.1.2.0 (opened_here media start len t m) is.1.2.1 in
+    let kept = left_keeps media start len t is.1.2.0 (opened_here media start len t m) is.1.2.1 in
     subst (λ (x : Ground). IsLessStore media start len x.base) same_ground kept

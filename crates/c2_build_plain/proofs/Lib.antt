@@ -1,4 +1,3 @@
-mod Approved
 mod Causes
 mod Drawn
 mod Ended

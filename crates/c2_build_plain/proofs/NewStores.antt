@@ -2,6 +2,8 @@
 use Rattle.std.proofs.Common.{◌≡◌, ℕ, true, List, length, Option, option_map, Some, None, refl, sym, ap, ◌∙◌, subst}
 use Rattle.std.specs.Prelude.{Result, Ok, Err, IfErr, IfOk}
 use Rattle.std.specs.Option.{option_to_list}
+use Rattle.c2_lemmas.specs.Stages.{Then}
+use Rattle.c2_lemmas.proofs.Stages.{then_next, unless_some_fails, unless_some_passes}
 use Rattle.c2_base.specs.declared.values.Question.{Question}
 use Rattle.c2_spec.specs.C2pa.Message.{bare_bytes}
 use Rattle.c2_spec.specs.C2pa.Sign1.{SignParts, sig_structure}
@@ -11,12 +13,13 @@ use Rattle.c2_spec.specs.declared.digest.Alg.{Alg}
 use Rattle.c2_spec.specs.declared.panel.Verdict.{Verdict}
 use Rattle.c2_definition.specs.declared.types.Definition.{Definition}
 use Rattle.c2_new_signature.specs.Refusals.{reserve_needed}
-use Rattle.c2_new_signature.specs.Signed.{FillsOrNeedsMore, IsSigned}
+use Rattle.c2_new_signature.specs.Signed.{IsSigned}
+use Rattle.c2_new_signature.proofs.TheLaws.{a_message_fills_its_reserve_or_needs_more}
 use Rattle.c2_new_file_spec.specs.Store.{new_claim, new_alg}
 use Rattle.c2_new_file_spec.specs.Places.{Place, place_binding, place_store, put_bytes}
 use Rattle.c2_build_refusals.specs.Kinds.{ComesAs, HasOutcome, SaysNothing}
 use Rattle.c2_build_plain.specs.Building.{Built, IsBuilt, IsEmbeddedOn, IsEmbeddedOver, IsPlannedOver, built_of, signed_bytes}
-use Rattle.c2_build_refusals.specs.Stages.{IsGroundStage, IsPlaceStage, MediaKind, Then}
+use Rattle.c2_build_refusals.specs.Stages.{IsGroundStage, IsPlaceStage, MediaKind}
 use Rattle.c2_build_refusals.specs.Refusals.{Ground, IsReserveRefusal, first_refusal, ground_tests, late_tests, refuse_if, reserve_tests}
 use Rattle.c2_build_drafts.specs.Drafts.{IsPutReady, IsSignedOf, draft_signed}
 use Rattle.c2_build_drafts.specs.declared.ready.DraftedBuild.{DraftedBuild}
@@ -26,7 +29,7 @@ use Rattle.c2_build_refusals.specs.declared.types.Drafted.{Drafted}
 use Rattle.c2_build_in_place.specs.declared.writing.Ready.{Ready}
 use Rattle.c2_build_refusals.specs.declared.error.BuildError.{BuildError}
 use Rattle.c2_build_refusals.specs.declared.error.BuildError.TheVariants as build
-use Rattle.c2_build_refusals.proofs.Stages.{first_passes, then_next, unless_fails, unless_passes}
+use Rattle.c2_build_refusals.proofs.Stages.{first_passes}
 use Rattle.c2_build_refusals.proofs.Outside.{nothing_said, outside_map}
 use Rattle.c2_build_plain.proofs.Drawn.{passed_plan}
 
@@ -57,9 +60,9 @@ planned_by hash said media kind d w known (Err e) at same signed nothing =
 -- ---- the message
 
 -- a message that is signed so fits into the reserve
-fits : FillsOrNeedsMore → (d : Definition) (parts : SignParts) (message : List ℕ) → IsSigned parts d.reserve message
+fits : (d : Definition) (parts : SignParts) (message : List ℕ) → IsSigned parts d.reserve message
     → first_refusal (reserve_tests d parts) ≡ None
-fits law d parts message signed = by (reserve_needed d.reserve (length (bare_bytes parts))) refl
+fits d parts message signed = by (reserve_needed d.reserve (length (bare_bytes parts))) refl
   where
     by : (o : Option ℕ) → reserve_needed d.reserve (length (bare_bytes parts)) ≡ o
         → first_refusal (reserve_tests d parts) ≡ None
@@ -67,7 +70,7 @@ fits law d parts message signed = by (reserve_needed d.reserve (length (bare_byt
         ap
         (λ (x : Option ℕ). first_refusal (option_to_list (option_map (λ (n : ℕ). refuse_if true (build.ReserveTooSmall n)) x)))
         e
-    by (Some n) e = absurd (law.never_both parts d.reserve message signed (n, e))
+    by (Some n) e = absurd (a_message_fills_its_reserve_or_needs_more.never_both parts d.reserve message signed (n, e))
 
 -- one that doesn't is refused behind the other tests
 refused_by :
@@ -84,7 +87,7 @@ refused_by hash said media kind d parts g p n h own r =
     h.numbers last in
     then_next (IsGroundStage hash said media d kind) (IsEmbeddedOn hash parts) g (Err (build.ReserveTooSmall n))
     h.ground
-    (then_next (IsPlaceStage g.base) _ p (Err (build.ReserveTooSmall n)) h.stage (unless_fails (first_refusal (late_tests g parts p)) _ (build.ReserveTooSmall n) first))
+    (then_next (IsPlaceStage g.base) _ p (Err (build.ReserveTooSmall n)) h.stage (unless_some_fails (first_refusal (late_tests g parts p)) _ (build.ReserveTooSmall n) first))
 
 -- a message that needs more than is reserved is refused with its error
 pub reserve_outside :
@@ -99,36 +102,38 @@ reserve_outside hash said media kind d parts g p e h own r =
 -- ---- what is written
 
 -- a file is built where no test fails
-pub built_over : FillsOrNeedsMore
-    → (hash : Alg → List ℕ → List ℕ) (said : Question → Verdict) (media : List ℕ) (kind : MediaKind) (d : Definition) (parts : SignParts) (g : Ground) (p : Place) (message bytes : List ℕ)
+pub built_over :
+    (hash : Alg → List ℕ → List ℕ) (said : Question → Verdict) (media : List ℕ) (kind : MediaKind) (d : Definition)
+    (parts : SignParts) (g : Ground) (p : Place) (message bytes : List ℕ)
     → IsPassed hash said media d kind g p → g.content.definition ≡ d
     → put_bytes p (tree_bytes (place_store (hash (new_alg d)) g.content message g.base p)) ≡ Some bytes
     → IsSigned parts d.reserve message → IsEmbeddedOver hash said media kind d parts (Ok (built_of g p bytes))
-built_over law hash said media kind d parts g p message bytes h own put signed =
+built_over hash said media kind d parts g p message bytes h own put signed =
     let filled : IsSigned parts g.content.definition.reserve message =
     subst (λ (x : Definition). IsSigned parts x.reserve message) (sym own) signed in
     let own_put : put_bytes p (tree_bytes (place_store (hash (new_alg g.content.definition)) g.content message g.base p)) ≡ Some bytes =
     subst (λ (x : Definition). put_bytes p (tree_bytes (place_store (hash (new_alg x)) g.content message g.base p)) ≡ Some bytes) (sym own) put in
     let none =
     first_passes (ground_tests g p) (reserve_tests g.content.definition parts) None h.numbers
-    (fits law g.content.definition parts message filled) in
+    (fits g.content.definition parts message filled) in
     then_next (IsGroundStage hash said media d kind) (IsEmbeddedOn hash parts) g (Ok (built_of g p bytes)) h.ground
     (then_next (IsPlaceStage g.base) _ p (Ok (built_of g p bytes)) h.stage
-    (unless_passes (first_refusal (late_tests g parts p)) (IsBuilt hash g p parts) (Ok (built_of g p bytes)) none (message, filled, (bytes, own_put, refl))))
+    (unless_some_passes (first_refusal (late_tests g parts p)) (IsBuilt hash g p parts) (Ok (built_of g p bytes)) none (message, filled, (bytes, own_put, refl))))
 
 -- ---- what comes of it
 
 -- what was drafted makes the new file
-pub draft_makes : FillsOrNeedsMore
-    → (hash : Alg → List ℕ → List ℕ) (said : Question → Verdict) (media : List ℕ) (kind : MediaKind) (d : Definition) (parts : SignParts) (w : Drafted) (message : List ℕ)
+pub draft_makes :
+    (hash : Alg → List ℕ → List ℕ) (said : Question → Verdict) (media : List ℕ) (kind : MediaKind) (d : Definition)
+    (parts : SignParts) (w : Drafted) (message : List ℕ)
     → IsDrafted hash said media d kind w → IsSigned parts d.reserve message
     → MakesFile hash media (IsEmbeddedOver hash said media kind d parts) (record { definition = d; drafted = w; message = message })
-draft_makes law hash said media kind d parts w message at signed = record {
+draft_makes hash said media kind d parts w message at signed = record {
   ground = at.ground;
   place = at.place;
   over = at.over;
   made =
-      λ bytes put. built_over law hash said media kind d parts at.ground at.place message bytes at.passed at.over.ground.content.definition put signed;
+      λ bytes put. built_over hash said media kind d parts at.ground at.place message bytes at.passed at.over.ground.content.definition put signed;
 }
 
 -- what is drafted behind a stage that passed makes the new file

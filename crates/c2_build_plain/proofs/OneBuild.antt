@@ -2,6 +2,8 @@
 use Rattle.std.proofs.Common.{◌≡◌, ℕ, ◌+◌, List, [], length, sym, ap, ◌∙◌, subst}
 use Rattle.std.specs.Prelude.{Ok}
 use Rattle.std.proofs.lemmas.Option.{same_Some}
+use Rattle.c2_lemmas.specs.Stages.{UnlessSome}
+use Rattle.c2_lemmas.proofs.Stages.{IsOne, one_then, one_unless_some}
 use Rattle.c2_base.specs.declared.values.Question.{Question}
 use Rattle.c2_spec.specs.C2pa.Sign1.{SignParts}
 use Rattle.c2_spec.specs.Jumbf.Tree.{Tree, tree_bytes}
@@ -10,52 +12,32 @@ use Rattle.c2_spec.specs.declared.panel.Verdict.{Verdict}
 use Rattle.c2_rules.specs.CheckList.{StoreReading, check_list}
 use Rattle.c2_rules.specs.Readings.{Reading}
 use Rattle.c2_rules.specs.Tests.{first_failing}
-use Rattle.c2_rules.specs.Validated.{IsFileReading}
+use Rattle.c2_read_manifests.proofs.TheLaws.{one_reading_file}
 use Rattle.c2_definition.specs.declared.types.Definition.{Definition}
-use Rattle.c2_new_signature.specs.Message.{RefusedForOne}
-use Rattle.c2_new_signature.specs.Signed.{FillsOrNeedsMore}
+use Rattle.c2_new_signature.proofs.TheLaws.{a_message_fills_its_reserve_or_needs_more}
 use Rattle.c2_new_file_spec.specs.Store.{Content, new_alg}
-use Rattle.c2_new_file_spec.specs.Carrying.{ContentIsOne}
-use Rattle.c2_new_file_spec.specs.Laws.{OneLeft, OnePlace}
+use Rattle.c2_new_file_spec.proofs.FileLaws.{a_place_is_one, what_is_left_is_one}
+use Rattle.c2_new_file_spec.proofs.ParentLaws.{what_is_taken_over_is_one_content}
 use Rattle.c2_new_file_spec.specs.Places.{Place, place_store, put_bytes}
 use Rattle.c2_build_plain.specs.Building.{IsBuilt, IsEmbeddedOn, IsPlannedOn, built_of, signed_bytes}
-use Rattle.c2_build_refusals.specs.Stages.{IsDefinitionStage, IsGroundOver, IsGroundStage, IsMediaStage, IsMessageStage, IsPlaceStage, MediaKind, Unless, fresh, fresh_ground, stored}
+use Rattle.c2_build_refusals.specs.Stages.{IsDefinitionStage, IsGroundOver, IsGroundStage, IsMediaStage, IsMessageStage, IsPlaceStage, MediaKind, fresh, fresh_ground, stored}
 use Rattle.c2_build_plain.specs.Meeting.{OneEmbedding, OnePlan}
 use Rattle.c2_build_refusals.specs.Refusals.{Ground, first_refusal, ground_tests, late_tests, older_tests, redaction_tests}
-use Rattle.c2_build_refusals.proofs.Stages.{IsOne, one_then, one_unless}
-use Rattle.c2_build_refusals.proofs.Inputs.{OneDefinition, OneItem, OneOpened, one_definition, one_media, one_message}
+use Rattle.c2_build_refusals.proofs.Inputs.{one_definition, one_media, one_message}
 use Rattle.c2_build_refusals.proofs.Passing.{ground_of}
-
--- ---- what laws of other crates say
-
--- the store of a file is read in one way
-abbrev pub OneStoreReading : Type 0
-OneStoreReading =
-    (file : List ℕ) (t : Tree) (a b : StoreReading) → IsFileReading file t a → IsFileReading file t b → a ≡ b
-
--- all of them
-pub record OneLaws : Type 0 where
-  pub opened : OneOpened
-  pub definition : OneDefinition
-  pub item : OneItem
-  pub place : OnePlace
-  pub left : OneLeft
-  pub refused : RefusedForOne
-  pub fills : FillsOrNeedsMore
-  pub reading : OneStoreReading
-  pub content : ContentIsOne
 
 -- ---- stages
 
 -- a place is one
-one_place : OnePlace → (base : List ℕ) → IsOne (IsPlaceStage base)
-one_place law base r s h k = h.2 ∙ ap (λ (p : Place). Ok p) (law base h.0 k.0 h.1 k.1) ∙ sym k.2
+one_place : (base : List ℕ) → IsOne (IsPlaceStage base)
+one_place base r s h k = h.2 ∙ ap (λ (p : Place). Ok p) (a_place_is_one base h.0 k.0 h.1 k.1) ∙ sym k.2
 
 -- one new file is built
-one_built : FillsOrNeedsMore → (hash : Alg → List ℕ → List ℕ) (g : Ground) (p : Place) (m : SignParts)
+one_built : (hash : Alg → List ℕ → List ℕ) (g : Ground) (p : Place) (m : SignParts)
     → IsOne (IsBuilt hash g p m)
-one_built fills hash g p m r s h k =
-    let message : h.0 ≡ k.0 = fills.one m g.content.definition.reserve h.0 k.0 h.1 k.1 in
+one_built hash g p m r s h k =
+    let message : h.0 ≡ k.0 =
+    a_message_fills_its_reserve_or_needs_more.one m g.content.definition.reserve h.0 k.0 h.1 k.1 in
     let store =
     ap
     (λ (x : List ℕ). put_bytes p (tree_bytes (place_store (hash (new_alg g.content.definition)) g.content x g.base p)))
@@ -66,51 +48,54 @@ one_built fills hash g p m r s h k =
 -- ---- the ground
 
 -- over an older store, what is built over is one
-one_over : OneLeft → ContentIsOne → (media : List ℕ) (d : Definition) (start len : ℕ) (t : Tree) (rs : List Reading)
+one_over : (media : List ℕ) (d : Definition) (start len : ℕ) (t : Tree) (rs : List Reading)
     → IsOne (IsGroundOver media d start len t rs)
-one_over left one media d start len t rs r s h k =
-    h.2.2 ∙ ap (λ (c : Content). Ok (ground_of h.2.0 c (length rs + 1))) (one d t h.0 k.0 h.1 k.1)
-    ∙ ap (λ (b : List ℕ). Ok (ground_of b k.0 (length rs + 1))) (left media start len h.2.0 k.2.0 h.2.1 k.2.1)
+one_over media d start len t rs r s h k =
+    h.2.2
+    ∙ ap (λ (c : Content). Ok (ground_of h.2.0 c (length rs + 1)))
+    (what_is_taken_over_is_one_content d t h.0 k.0 h.1 k.1)
+    ∙ ap (λ (b : List ℕ). Ok (ground_of b k.0 (length rs + 1)))
+    (what_is_left_is_one media start len h.2.0 k.2.0 h.2.1 k.2.1)
     ∙ sym k.2.2
 
 -- what is built over is one, or what is refused of it
-pub one_ground : OneLaws
-    → (hash : Alg → List ℕ → List ℕ) (said : Question → Verdict) (media : List ℕ) (d : Definition) (kind : MediaKind)
+pub one_ground :
+    (hash : Alg → List ℕ → List ℕ) (said : Question → Verdict) (media : List ℕ) (d : Definition) (kind : MediaKind)
     → IsOne (IsGroundStage hash said media d kind)
-one_ground l hash said media d fresh r s h k =
-    one_unless (first_refusal (redaction_tests d [])) (λ x. x ≡ Ok (fresh_ground media d)) (λ a b p q. p ∙ sym q) r s h
+one_ground hash said media d fresh r s h k =
+    one_unless_some (first_refusal (redaction_tests d [])) (λ x. x ≡ Ok (fresh_ground media d)) (λ a b p q. p ∙ sym q) r s h
     k
-one_ground l hash said media d (stored start len t) r s h k =
-    one_unless (first_refusal (older_tests d h.0.readings (first_failing (check_list hash said h.0))))
-    (IsGroundOver media d start len t h.0.readings) (one_over l.left l.content media d start len t h.0.readings) r s
+one_ground hash said media d (stored start len t) r s h k =
+    one_unless_some (first_refusal (older_tests d h.0.readings (first_failing (check_list hash said h.0))))
+    (IsGroundOver media d start len t h.0.readings) (one_over media d start len t h.0.readings) r s
     h.2
-    (subst (λ (x : StoreReading). Unless (first_refusal (older_tests d x.readings (first_failing (check_list hash said x)))) (IsGroundOver media d start len t x.readings) s) (l.reading media t k.0 h.0 k.1 h.1) k.2)
+    (subst (λ (x : StoreReading). UnlessSome (first_refusal (older_tests d x.readings (first_failing (check_list hash said x)))) (IsGroundOver media d start len t x.readings) s) (one_reading_file media t k.0 h.0 k.1 h.1) k.2)
 
 -- ---- both calls
 
 -- what is planned over a ground is one
-one_planned_on : OneLaws → (hash : Alg → List ℕ → List ℕ) (g : Ground) → IsOne (IsPlannedOn hash g)
-one_planned_on l hash g =
-    one_then (IsPlaceStage g.base) _ (one_place l.place g.base) (λ p.
-    one_unless (first_refusal (ground_tests g p)) (λ r. r ≡ Ok (signed_bytes hash g p)) (λ r s h k. h ∙ sym k))
+one_planned_on : (hash : Alg → List ℕ → List ℕ) (g : Ground) → IsOne (IsPlannedOn hash g)
+one_planned_on hash g =
+    one_then (IsPlaceStage g.base) _ (one_place g.base) (λ p.
+    one_unless_some (first_refusal (ground_tests g p)) (λ r. r ≡ Ok (signed_bytes hash g p)) (λ r s h k. h ∙ sym k))
 
 -- what is built over a ground is one
-one_embedded_on : OneLaws → (hash : Alg → List ℕ → List ℕ) (m : SignParts) (g : Ground) → IsOne (IsEmbeddedOn hash m g)
-one_embedded_on l hash m g =
-    one_then (IsPlaceStage g.base) _ (one_place l.place g.base) (λ p.
-    one_unless (first_refusal (late_tests g m p)) (IsBuilt hash g p m) (one_built l.fills hash g p m))
+one_embedded_on : (hash : Alg → List ℕ → List ℕ) (m : SignParts) (g : Ground) → IsOne (IsEmbeddedOn hash m g)
+one_embedded_on hash m g =
+    one_then (IsPlaceStage g.base) _ (one_place g.base) (λ p.
+    one_unless_some (first_refusal (late_tests g m p)) (IsBuilt hash g p m) (one_built hash g p m))
 
 -- a plan is one
-pub one_plan : OneLaws → OnePlan
-one_plan l hash said media definition =
+pub one_plan : OnePlan
+one_plan hash said media definition =
     one_then (IsMediaStage media) _ (one_media media) (λ kind.
     one_then (IsDefinitionStage definition) _ (one_definition definition) (λ d.
-    one_then (IsGroundStage hash said media d kind) _ (one_ground l hash said media d kind) (one_planned_on l hash)))
+    one_then (IsGroundStage hash said media d kind) _ (one_ground hash said media d kind) (one_planned_on hash)))
 
 -- a new file is one
-pub one_embedding : OneLaws → OneEmbedding
-one_embedding l hash said media definition message =
+pub one_embedding : OneEmbedding
+one_embedding hash said media definition message =
     one_then (IsMediaStage media) _ (one_media media) (λ kind.
     one_then (IsDefinitionStage definition) _ (one_definition definition) (λ d.
-    one_then (IsMessageStage d.protected message) _ (one_message l.refused d.protected message) (λ m.
-    one_then (IsGroundStage hash said media d kind) _ (one_ground l hash said media d kind) (one_embedded_on l hash m))))
+    one_then (IsMessageStage d.protected message) _ (one_message d.protected message) (λ m.
+    one_then (IsGroundStage hash said media d kind) _ (one_ground hash said media d kind) (one_embedded_on hash m))))

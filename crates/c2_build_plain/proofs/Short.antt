@@ -3,6 +3,7 @@ use Rattle.std.proofs.Common.{◌≡◌, ℕ, ◌+◌, ◌*◌, ◌≤◌, Bool,
 use Rattle.std.specs.Bool.{MatchBool}
 use Rattle.std.specs.List.{AllByRecursion}
 use Rattle.std.specs.Prelude.{Ok}
+use Rattle.c2_lemmas.proofs.Stages.{unless_some_passed}
 use Rattle.c2_base.specs.declared.limits.TheConstants.{MAX_STORE_LEN}
 use Rattle.c2_base.specs.declared.values.Question.{Question}
 use Rattle.c2_spec.specs.Bmff.Store.{HasBmffStore}
@@ -24,14 +25,14 @@ use Rattle.c2_new_file_spec.specs.Written.{AreIngredients}
 use Rattle.c2_new_file_spec.proofs.Ingredients.{no_ingredients, parent_alone}
 use Rattle.c2_new_file_spec.specs.Parents.{IsContentOver}
 use Rattle.c2_new_file_spec.specs.Redacting.{boxes_in, redacted_boxes}
-use Rattle.c2_new_lengths_spec.specs.Lengths.{Fits, IsShortOver, StoresFit}
+use Rattle.c2_new_lengths_spec.specs.Lengths.{Fits, IsShortOver}
+use Rattle.c2_new_lengths_spec.proofs.TheLaws.{the_length_of_a_new_store_fits}
 use Rattle.c2_parent.proofs.CarriedLemmas.{carried_bound}
 use Rattle.c2_parent.proofs.Walking.{root_box}
 use Rattle.c2_build_refusals.specs.Refusals.{Ground, first_refusal, older_tests, redaction_tests}
 use Rattle.c2_build_refusals.specs.Stages.{IsGroundOver, IsGroundStage, IsMediaStage, MediaKind, fresh, fresh_ground, stored}
 use Rattle.c2_build_refusals.specs.declared.types.InsertPoint.{InsertPoint}
 use Rattle.c2_build_refusals.proofs.Passing.{ground_of, opened_here}
-use Rattle.c2_build_refusals.proofs.Stages.{unless_passed}
 use Rattle.c2_build_in_place.specs.Numbers.{HasLen, IsOfFile}
 use Rattle.c2_build_plain.proofs.Kept.{located_here}
 use Rattle.c2_collect_spec.proofs.Lengths.{label_less, member_less}
@@ -82,30 +83,34 @@ over_short media start len t d c opened over =
     }
 
 -- 64 bits hold the length of the new store of a ground, where a file is the definition
-ground_fits : StoresFit
-    → (hash : Alg → List ℕ → List ℕ) (said : Question → Verdict) (media : List ℕ) (d : Definition) (kind : MediaKind) (g : Ground)
+ground_fits :
+    (hash : Alg → List ℕ → List ℕ) (said : Question → Verdict) (media : List ℕ) (d : Definition) (kind : MediaKind)
+    (g : Ground)
     → IsOfFile d → IsMediaStage media (Ok kind) → IsGroundStage hash said media d kind (Ok g) → Fits g.content
-ground_fits law hash said media d fresh g of_file m h =
-    let is = unless_passed (first_refusal (redaction_tests d [])) (λ r. r ≡ Ok (fresh_ground media d)) g h in
+ground_fits hash said media d fresh g of_file m h =
+    let is = unless_some_passed (first_refusal (redaction_tests d [])) (λ r. r ≡ Ok (fresh_ground media d)) g h in
     let same : fresh_ground media d ≡ g = cc (is.1) in
     subst (λ (x : Ground). Fits x.content) same
-    (law of_file.0 (fresh_content d) of_file.1 (record { boxes = lit≤ tt; ingredients = no_ingredients; labels = tt }))
-ground_fits law hash said media d (stored start len t) g of_file m h =
+    (the_length_of_a_new_store_fits of_file.0 (fresh_content d) of_file.1
+    (record { boxes = lit≤ tt; ingredients = no_ingredients; labels = tt }))
+ground_fits hash said media d (stored start len t) g of_file m h =
     let is =
-    unless_passed (first_refusal (older_tests d h.0.readings (first_failing (check_list hash said h.0))))
+    unless_some_passed (first_refusal (older_tests d h.0.readings (first_failing (check_list hash said h.0))))
     (IsGroundOver media d start len t h.0.readings) g h.2 in
     let over : IsContentOver d t is.1.0 = is.1.1 in
     let same : ground_of is.1.2.0 is.1.0 (length h.0.readings + 1) ≡ g = cc (is.1.2.2) in
     let own : IsDefinition of_file.0 (Ok is.1.0.definition) =
     subst (λ (x : Definition). IsDefinition of_file.0 (Ok x)) (sym over.definition) of_file.1 in
     subst (λ (x : Ground). Fits x.content) same
-    (law of_file.0 is.1.0 own (over_short media start len t d is.1.0 (opened_here media start len t m) over))
+    (the_length_of_a_new_store_fits of_file.0 is.1.0 own
+    (over_short media start len t d is.1.0 (opened_here media start len t m) over))
 
 -- in each place
-pub ground_len : StoresFit
-    → (hash : Alg → List ℕ → List ℕ) (said : Question → Verdict) (media : List ℕ) (d : Definition) (kind : MediaKind) (g : Ground) (s : InsertPoint)
+pub ground_len :
+    (hash : Alg → List ℕ → List ℕ) (said : Question → Verdict) (media : List ℕ) (d : Definition) (kind : MediaKind)
+    (g : Ground) (s : InsertPoint)
     → IsOfFile d → IsMediaStage media (Ok kind) → IsGroundStage hash said media d kind (Ok g) → HasLen s g.content
-ground_len law hash said media d kind g s of_file m h = by s (ground_fits law hash said media d kind g of_file m h)
+ground_len hash said media d kind g s of_file m h = by s (ground_fits hash said media d kind g of_file m h)
   where
     by : (x : InsertPoint) → Fits g.content → HasLen x g.content
     by (InsertPoint.Segments start number) fits = fits.jpeg

@@ -6,7 +6,6 @@ use Rattle.c2_spec.specs.C2pa.Sign1.{SignParts}
 use Rattle.c2_spec.specs.declared.digest.Alg.{Alg}
 use Rattle.c2_spec.specs.declared.panel.Verdict.{Verdict}
 use Rattle.c2_definition.specs.declared.types.Definition.{Definition}
-use Rattle.c2_new_signature.specs.Message.{RefusedForOne}
 use Rattle.c2_build_plain.specs.Answers.{AsksEmbedded, AsksPlanned}
 use Rattle.c2_build_plain.specs.Steps.{AsksWith}
 use Rattle.c2_build_refusals.specs.Kinds.{WithoutFault}
@@ -15,8 +14,8 @@ use Rattle.c2_build_base.specs.Grounds.{IsKind, KindHears}
 use Rattle.c2_build_base.specs.declared.media.MediaRead.{MediaRead}
 use Rattle.c2_build_refusals.specs.declared.error.BuildError.{BuildError}
 use Rattle.c2_build_refusals.proofs.Outside.{outside_all, outside_map, said_each}
-use Rattle.c2_build_refusals.proofs.Inputs.{OneDefinition, OneItem, OneOpened, not_both_definitions, not_both_media, not_both_messages, one_definition, one_media, one_message, same_kind, told_where_both, told_where_due}
-use Rattle.c2_build_refusals.proofs.Stages.{asks_behind, asks_none}
+use Rattle.c2_build_refusals.proofs.Inputs.{not_both_definitions, not_both_media, not_both_messages, one_definition, one_media, one_message, same_kind, told_where_both, told_where_due}
+use Rattle.c2_lemmas.proofs.Asks.{asks_behind, asks_none}
 
 -- a file with nothing to ask asks nothing
 pub kind_asks : (hash : Alg → List ℕ → List ℕ) (said : Question → Verdict) (media : List ℕ) (kind : MediaKind)
@@ -28,7 +27,7 @@ kind_asks hash said media kind is (inr none) =
 
 -- ---- what `plan` asks
 
-module _ (one : OneOpened) (hash : Alg → List ℕ → List ℕ) (said : Question → Verdict) (media definition : Option (List ℕ)) where
+module _ (hash : Alg → List ℕ → List ℕ) (said : Question → Verdict) (media definition : Option (List ℕ)) where
   -- nothing where the media is refused
   pub refused_plan : (e : BuildError)
       → ((file : List ℕ) → media ≡ Some file → WithoutFault e (IsMediaStage file (Err e)))
@@ -41,7 +40,7 @@ module _ (one : OneOpened) (hash : Alg → List ℕ → List ℕ) (said : Questi
           (stage k.file k.is_file)
       by qs (inr h) = outside_all e h.0
 
-  module _ (defined : OneDefinition) (m : MediaRead) (found : (file : List ℕ) → media ≡ Some file → (kind : MediaKind) × IsKind file m kind) where
+  module _ (m : MediaRead) (found : (file : List ℕ) → media ≡ Some file → (kind : MediaKind) × IsKind file m kind) where
     -- the bytes of the definition are told, where the media isn't refused
     definition_told : (file bytes : List ℕ) → media ≡ Some file → IsDefinitionTold file definition bytes
         → definition ≡ Some bytes
@@ -85,7 +84,7 @@ module _ (one : OneOpened) (hash : Alg → List ℕ → List ℕ) (said : Questi
 
 -- ---- what `embed` asks
 
-module _ (one : OneOpened) (hash : Alg → List ℕ → List ℕ) (said : Question → Verdict) (media definition message : Option (List ℕ)) where
+module _ (hash : Alg → List ℕ → List ℕ) (said : Question → Verdict) (media definition message : Option (List ℕ)) where
   -- nothing where the media is refused
   pub refused_embed : (e : BuildError)
       → ((file : List ℕ) → media ≡ Some file → WithoutFault e (IsMediaStage file (Err e)))
@@ -99,7 +98,7 @@ module _ (one : OneOpened) (hash : Alg → List ℕ → List ℕ) (said : Questi
           (stage k.file k.is_file)
       by qs (inr h) = outside_all e h.0
 
-  module _ (defined : OneDefinition) (m : MediaRead) (found : (file : List ℕ) → media ≡ Some file → (kind : MediaKind) × IsKind file m kind) where
+  module _ (m : MediaRead) (found : (file : List ℕ) → media ≡ Some file → (kind : MediaKind) × IsKind file m kind) where
     -- the bytes of the definition are told, where the media isn't refused
     told_definition : (file bytes : List ℕ) → media ≡ Some file → IsDefinitionTold file definition bytes
         → definition ≡ Some bytes
@@ -120,7 +119,7 @@ module _ (one : OneOpened) (hash : Alg → List ℕ → List ℕ) (said : Questi
             (stage k.bytes (told_definition k.file k.bytes k.is_file k.is_bytes))
         by qs (inr h) = outside_all e h.0
 
-    module _ (item : OneItem) (refusals : RefusedForOne) (d : Definition) (is : (bytes : List ℕ) → definition ≡ Some bytes → IsDefinitionStage bytes (Ok d)) where
+    module _ (d : Definition) (is : (bytes : List ℕ) → definition ≡ Some bytes → IsDefinitionStage bytes (Ok d)) where
       -- the bytes of the message are known, where neither the media nor the definition is refused
       told_message : (file bytes signed : List ℕ) → media ≡ Some file → IsDefinitionTold file definition bytes
           → IsMessageTold file bytes message signed → message ≡ Some signed
@@ -139,7 +138,7 @@ module _ (one : OneOpened) (hash : Alg → List ℕ → List ℕ) (said : Questi
           by : (qs : List Question) → AsksEmbedded hash media definition message said qs → WithoutFault e (qs ≡ [])
           by qs (inl k) =
               let kind = found k.file k.is_file in
-              outside_map e (λ read. asks_none (IsMessageStage d.protected k.signed) _ e qs (one_message refusals d.protected k.signed) read
+              outside_map e (λ read. asks_none (IsMessageStage d.protected k.signed) _ e qs (one_message d.protected k.signed) read
               (asks_behind (IsDefinitionStage k.bytes) _ d qs (one_definition k.bytes) (is k.bytes (told_definition k.file k.bytes k.is_file k.is_bytes))
               (asks_behind (IsMediaStage k.file) _ kind.0 qs (one_media k.file) kind.1.stage k.asks)))
               (stage k.signed (told_message k.file k.bytes k.signed k.is_file k.is_bytes k.is_signed))
@@ -156,7 +155,7 @@ module _ (one : OneOpened) (hash : Alg → List ℕ → List ℕ) (said : Questi
             is_known = k.is_file;
             kind = kind.0;
             is = kind.1;
-            asks = asks_behind (IsMessageStage d.protected k.signed) _ p qs (one_message refusals d.protected k.signed) (stage k.signed (told_message k.file k.bytes k.signed k.is_file k.is_bytes k.is_signed))
+            asks = asks_behind (IsMessageStage d.protected k.signed) _ p qs (one_message d.protected k.signed) (stage k.signed (told_message k.file k.bytes k.signed k.is_file k.is_bytes k.is_signed))
                 (asks_behind (IsDefinitionStage k.bytes) _ d qs (one_definition k.bytes) (is k.bytes (told_definition k.file k.bytes k.is_file k.is_bytes))
                 (asks_behind (IsMediaStage k.file) _ kind.0 qs (one_media k.file) kind.1.stage k.asks));
           }
@@ -172,12 +171,12 @@ module _ (one : OneOpened) (hash : Alg → List ℕ → List ℕ) (said : Questi
               { bytes = told.0; is_known = told.1; kind = kind.0; is = kind.1; asks = subst (KindAsks hash said told.0 kind.0) (sym h.0) (kind_asks hash said told.0 kind.0 kind.1.stage told.2) }
           by (inr (inl told)) = not_both_definitions told.0 d (is told.0 told.1) told.2
           by (inr (inr told)) =
-              not_both_messages refusals told.0 told.2.0 d p (is told.0 told.1) (stage told.2.0 told.2.1) told.2.2
+              not_both_messages told.0 told.2.0 d p (is told.0 told.1) (stage told.2.0 told.2.1) told.2.2
 
 -- ---- what `embed` asks with a definition that was read
 
-module _ (one : OneOpened) (hash : Alg → List ℕ → List ℕ) (said : Question → Verdict) (media message : Option (List ℕ)) (defined : OneDefinition) (m : MediaRead)
-    (found : (file : List ℕ) → media ≡ Some file → (kind : MediaKind) × IsKind file m kind) (item : OneItem) (refusals : RefusedForOne) (d : Definition) where
+module _ (hash : Alg → List ℕ → List ℕ) (said : Question → Verdict) (media message : Option (List ℕ)) (m : MediaRead)
+    (found : (file : List ℕ) → media ≡ Some file → (kind : MediaKind) × IsKind file m kind) (d : Definition) where
   -- nothing where the message is refused
   pub unsigned_with : (e : BuildError)
       → ((signed : List ℕ) → message ≡ Some signed → WithoutFault e (IsMessageStage d.protected signed (Err e)))
@@ -185,11 +184,11 @@ module _ (one : OneOpened) (hash : Alg → List ℕ → List ℕ) (said : Questi
   unsigned_with e stage =
       said_each e {A = List Question} (λ (qs : List Question). AsksWith hash media d message said qs → qs ≡ [])
       (λ qs. said_each e {A = AsksWith hash media d message said qs} (λ (k : AsksWith hash media d message said qs). qs ≡ []) (λ k.
-      outside_map e (λ none. none qs k.asks) (unsigned_embed one hash said media k.definition message defined m found item refusals d k.is e stage)))
+      outside_map e (λ none. none qs k.asks) (unsigned_embed hash said media k.definition message m found d k.is e stage)))
 
   -- what the media does, where the message isn't
   pub asks_with : (p : SignParts)
       → ((signed : List ℕ) → message ≡ Some signed → IsMessageStage d.protected signed (Ok p))
       → (qs : List Question) → AsksWith hash media d message said qs → KindHears hash media m said qs
   asks_with p stage qs k =
-      embedded_asks one hash said media k.definition message defined m found item refusals d k.is p stage qs k.asks
+      embedded_asks hash said media k.definition message m found d k.is p stage qs k.asks

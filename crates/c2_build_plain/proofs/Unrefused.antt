@@ -1,6 +1,7 @@
 -- Where no refusal has its condition, each stage of a build comes to a value.
-use Rattle.std.proofs.Common.{◌≡◌, Bool, true, false, cond, List, [], ◌∷◌, ◌++◌, ℕ, Option, Some, None, refl, sym, ap, ◌∙◌, subst}
-use Rattle.std.specs.Prelude.{Result, Ok, Err}
+use Rattle.std.proofs.Common.{◌≡◌, Bool, true, false, cond, List, [], ◌∷◌, ◌++◌, ℕ, Option, Some, None, refl, sym, ap, ◌∙◌}
+use Rattle.std.specs.Prelude.{Ok}
+use Rattle.c2_lemmas.proofs.Stages.{NeverRefuses, comes_out, then_never, unless_some_never, value_never}
 use Rattle.c2_base.specs.declared.values.Question.{Question}
 use Rattle.c2_spec.specs.C2pa.Sign1.{SignParts}
 use Rattle.c2_spec.specs.declared.digest.Alg.{Alg}
@@ -10,13 +11,13 @@ use Rattle.c2_rules.specs.Tests.{first_failing}
 use Rattle.c2_definition.specs.declared.types.Definition.{Definition}
 use Rattle.c2_new_file_spec.specs.Places.{Place}
 use Rattle.c2_build_plain.specs.Building.{IsBuilt, IsEmbedded, IsEmbeddedOn, IsPlanned, IsPlannedOn, signed_bytes}
-use Rattle.c2_build_refusals.specs.Stages.{After, IsDefinitionStage, IsGroundOver, IsGroundStage, IsMediaStage, IsMessageStage, IsPlaceStage, MediaKind, Then, Unless, fresh, fresh_ground, stored}
-use Rattle.c2_build_plain.specs.Meeting.{GroundPasses, IsEmbedUnrefused, IsPlanUnrefused, SomeEmbedding, SomePlan, UnrefusedIsEmbedded, UnrefusedIsPlanned}
+use Rattle.c2_build_refusals.specs.Stages.{IsDefinitionStage, IsGroundOver, IsGroundStage, IsMediaStage, IsMessageStage, IsPlaceStage, MediaKind, fresh, fresh_ground, stored}
+use Rattle.c2_build_plain.specs.Meeting.{GroundPasses, IsEmbedUnrefused, IsPlanUnrefused, UnrefusedIsEmbedded, UnrefusedIsPlanned}
 use Rattle.c2_build_refusals.specs.Refusals.{AllPass, BuildTest, Ground, IsRefusalOf, first_refusal, ground_tests, late_tests, older_tests, redaction_tests, reserve_tests}
 use Rattle.c2_build_refusals.specs.declared.error.BuildError.{BuildError}
 use Rattle.c2_build_plain.proofs.Drawn.{place_at}
 use Rattle.c2_build_refusals.proofs.FirstRefusal.{refusal_is_least}
-use Rattle.c2_build_plain.proofs.SomeBuild.{ground_definition}
+use Rattle.c2_build_plain.proofs.SomeBuild.{ground_definition, some_embedding, some_plan}
 use Rattle.c2_build_refusals.proofs.Stages.{none_fails}
 
 -- ---- tests that pass
@@ -40,48 +41,17 @@ none_together (t ∷ ts) ys h k =
     let one = none_fails t.fails t.refusal (first_refusal ts) h in
     ap (λ (b : Bool). cond b (Some t.refusal) (first_refusal (ts ++ ys))) one.0 ∙ none_together ts ys one.1 k
 
--- ---- stages that come to no refusal
-
--- what comes to no refusal
-abbrev NeverRefuses : {A : Type 0} → (Result A BuildError → Type 0) → Type 0
-NeverRefuses Is = (e : BuildError) → Is (Err e) → ⊥
-
--- two stages refuse nothing where neither does
-then_never : {A B : Type 0} (First : Result A BuildError → Type 0) (Next : A → Result B BuildError → Type 0)
-    → NeverRefuses First
-    → ((a : A) → First (Ok a) → NeverRefuses (Next a)) → NeverRefuses (Then First Next)
-then_never {A} {B} First Next first next e h = by h.first h.is_first h.next
-  where
-    by : (r : Result A BuildError) → First r → After Next r (Err e) → ⊥
-    by (Ok a) f n = next a f e n
-    by (Err x) f n = first x f
-
--- tests that pass refuse nothing, where what comes after them doesn't
-unless_never : {A : Type 0} (o : Option BuildError) (Next : Result A BuildError → Type 0) → o ≡ None → NeverRefuses Next
-    → NeverRefuses (Unless o Next)
-unless_never {A} o Next none next e h = next e (subst (λ (p : Option BuildError). Unless {A = A} p Next (Err e)) none h)
-
--- a value is no refusal
-value_never : {A : Type 0} (a : A) → NeverRefuses (λ (r : Result A BuildError). r ≡ Ok a)
-value_never a e h = cc (h)
-
--- what comes to something, and refuses nothing, comes to a value
-comes_out : {A : Type 0} (Is : Result A BuildError → Type 0) (r : Result A BuildError) → Is r → NeverRefuses Is
-    → (a : A) × Is (Ok a)
-comes_out Is (Ok a) h never = (a, h)
-comes_out Is (Err e) h never = absurd (never e h)
-
 -- ---- the stages of a build
 
 -- the ground
 ground_never : (hash : Alg → List ℕ → List ℕ) (said : Question → Verdict) (media : List ℕ) (d : Definition) (kind : MediaKind)
     → GroundPasses hash said media d kind → NeverRefuses (IsGroundStage hash said media d kind)
 ground_never hash said media d fresh pass e h =
-    unless_never (first_refusal (redaction_tests d [])) (λ r. r ≡ Ok (fresh_ground media d))
+    unless_some_never (first_refusal (redaction_tests d [])) (λ r. r ≡ Ok (fresh_ground media d))
     (none_refused (redaction_tests d []) pass) (value_never (fresh_ground media d)) e h
 ground_never hash said media d (stored start len t) pass e h =
     let tests : List BuildTest = older_tests d h.0.readings (first_failing (check_list hash said h.0)) in
-    unless_never (first_refusal tests) (IsGroundOver media d start len t h.0.readings)
+    unless_some_never (first_refusal tests) (IsGroundOver media d start len t h.0.readings)
     (none_refused tests (pass h.0 h.1)) (λ x k. cc (k.2.2)) e h.2
 
 -- the place
@@ -105,7 +75,7 @@ plan_never hash said media definition h =
     let tests =
     none_refused (ground_tests g p)
     (h.place_passes kind d g p is_media is_d is_g (place_at {base = g.base} {p = p} is_p)) in
-    unless_never (first_refusal (ground_tests g p)) _ tests (value_never (signed_bytes hash g p))))))
+    unless_some_never (first_refusal (ground_tests g p)) _ tests (value_never (signed_bytes hash g p))))))
 
 -- a new file is never refused where nothing is refused of its inputs
 embed_never : (hash : Alg → List ℕ → List ℕ) (said : Question → Verdict) (media definition message : List ℕ)
@@ -124,19 +94,19 @@ embed_never hash said media definition message h =
     (before.place_passes kind d g p is_media is_d is_g (place_at {base = g.base} {p = p} is_p)) in
     let late : first_refusal (reserve_tests g.content.definition parts) ≡ None =
     ap (λ (x : Definition). first_refusal (reserve_tests x parts)) own ∙ none_refused (reserve_tests d parts) (h.reserve_passes d parts is_d is_parts) in
-    unless_never (first_refusal (late_tests g parts p)) (IsBuilt hash g p parts)
+    unless_some_never (first_refusal (late_tests g parts p)) (IsBuilt hash g p parts)
     (none_together (ground_tests g p) (reserve_tests g.content.definition parts) early late) (built_never hash g p parts))))))
 
 -- ---- both calls
 
 -- where nothing is refused, bytes are planned
-pub unrefused_plan : SomePlan → UnrefusedIsPlanned
-unrefused_plan some hash said media definition bytes h =
-    let r = some hash said media definition bytes in
+pub unrefused_plan : UnrefusedIsPlanned
+unrefused_plan hash said media definition bytes h =
+    let r = some_plan hash said media definition bytes in
     comes_out (IsPlanned hash said media definition) r.0 r.1 (plan_never hash said media definition h)
 
 -- where nothing is refused, a new file is built
-pub unrefused_embedding : SomeEmbedding → UnrefusedIsEmbedded
-unrefused_embedding some hash said media definition message bytes are h =
-    let r = some hash said media definition message bytes are in
+pub unrefused_embedding : UnrefusedIsEmbedded
+unrefused_embedding hash said media definition message bytes are h =
+    let r = some_embedding hash said media definition message bytes are in
     comes_out (IsEmbedded hash said media definition message) r.0 r.1 (embed_never hash said media definition message h)

@@ -5,6 +5,7 @@ use Rattle.std.proofs.Common.{◌≡◌, ℕ, Bool, true, false, List, [], ◌�
 use Rattle.std.specs.Prelude.{Ok}
 use Rattle.std.specs.Str.{is_utf8, chars}
 use Rattle.std.proofs.lemmas.Bool.{false≢true}
+use Rattle.c2_lemmas.proofs.Stages.{then_next, unless_some_passes}
 use Rattle.hex.proofs.OnLiterals.{hex_on_literals}
 use Rattle.uuid.proofs.OnLiterals.{uuid_on_literals}
 use Rattle.serde_json.proofs.OnLiterals.{serde_json_on_literals}
@@ -18,7 +19,6 @@ use Rattle.c2_rules.specs.Opened.{IsOpened}
 use Rattle.c2_definition.specs.DefinitionFile.{IsDefinition, assertions_in, definition_in}
 use Rattle.c2_definition.specs.Json.{object_of}
 use Rattle.c2_definition.specs.declared.types.Definition.{Definition}
-use Rattle.c2_new_signature.specs.Signed.{FillsOrNeedsMore}
 use Rattle.c2_new_file_spec.specs.Written.{HasTexts}
 use Rattle.c2_spec.specs.Jumbf.Tree.{tree_bytes}
 use Rattle.c2_new_file_spec.specs.Places.{IsPlace, Place, place_store}
@@ -26,7 +26,7 @@ use Rattle.c2_build_plain.specs.Building.{Built, IsBuilt, IsEmbedded, IsEmbedded
 use Rattle.c2_build_refusals.specs.Stages.{HasTextsIn, IsDefinitionStage, IsGroundStage, IsMediaStage, IsMessageStage, IsPlaceStage, fresh, fresh_ground}
 use Rattle.c2_build_plain.specs.Meeting.{SomeBuildSucceeds}
 use Rattle.c2_build_refusals.specs.Refusals.{Ground, first_refusal, ground_tests, late_tests, reserve_tests}
-use Rattle.c2_build_refusals.proofs.Stages.{none_of_both, then_next, unless_passes}
+use Rattle.c2_build_refusals.proofs.Stages.{none_of_both}
 use Rattle.c2_build_plain.proofs.Rooms.{pass_numbers}
 use Rattle.c2_new_file_spec.specs.Store.{new_alg}
 use Rattle.c2_collect_spec.proofs.Order.{some_bytes}
@@ -90,13 +90,13 @@ texts_in d is = let same : defined ≡ d = cc (each_definition_is_read_one_way_o
 -- ---- the build
 
 -- a new file comes of a media file without a store, where no test fails at its place, whatever the hash and the judges
-pub worked_in : FillsOrNeedsMore
-    → (hash : Alg → List ℕ → List ℕ) (said : Question → Verdict) (file : List ℕ) (p : Place)
+pub worked_in :
+    (hash : Alg → List ℕ → List ℕ) (said : Question → Verdict) (file : List ℕ) (p : Place)
     → IsOpened file located.absent → IsPlace file p
     → first_refusal (late_tests (fresh_ground file defined) parts p) ≡ None
     → (b : Built) × IsEmbedded hash said file definition_file message (Ok b)
-worked_in fills hash said file p absent at none =
-    let filled = signed fills in
+worked_in hash said file p absent at none =
+    let filled = signed in
     let g : Ground = fresh_ground file defined in
     let numbers = none_of_both (ground_tests g p) (reserve_tests defined parts) none in
     let bytes =
@@ -111,7 +111,7 @@ worked_in fills hash said file p absent at none =
           (Ok parts, (accepted_message, spelled), refl)
           (then_next (IsGroundStage hash said file defined fresh) (IsEmbeddedOn hash parts) g (Ok b) refl
           (then_next (IsPlaceStage file) _ p (Ok b) (p, at, refl)
-          (unless_passes (first_refusal (late_tests g parts p)) (IsBuilt hash g p parts) (Ok b) none is_built))))),
+          (unless_some_passes (first_refusal (late_tests g parts p)) (IsBuilt hash g p parts) (Ok b) none is_built))))),
     )
 
 -- no test fails at the place of the JPEG file
@@ -120,7 +120,7 @@ unfolding shortest_head
 none_fails = refl
 
 -- some build succeeds
-pub some_succeeds : FillsOrNeedsMore → SomeBuildSucceeds
-some_succeeds fills hash said =
-    let w = worked_in fills hash said media place is_absent is_place none_fails in
+pub some_succeeds : SomeBuildSucceeds
+some_succeeds hash said =
+    let w = worked_in hash said media place is_absent is_place none_fails in
     (media, definition_file, message, w.0, texts_in, w.1)

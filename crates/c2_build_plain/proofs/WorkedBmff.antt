@@ -6,7 +6,6 @@ use Rattle.c2_spec.specs.Bmff.Store.{HasNoBmffStore, is_c2pa_box, is_other_box}
 use Rattle.c2_spec.specs.Cbor.Deterministic.{shortest_head}
 use Rattle.c2_spec.specs.Located as located
 use Rattle.c2_rules.specs.Opened.{IsOpened}
-use Rattle.c2_new_signature.specs.Signed.{FillsOrNeedsMore}
 use Rattle.c2_new_file_spec.specs.Films.{AreOthers}
 use Rattle.c2_new_file_spec.specs.Places.{IsPlace, in_boxes}
 use Rattle.c2_build_refusals.specs.Stages.{fresh_ground}
@@ -67,7 +66,7 @@ unfolding shortest_head
 none_fails = refl
 
 -- some build into a BMFF file succeeds
-pub bmff_succeeds : FillsOrNeedsMore → SomeBmffSucceeds
-bmff_succeeds fills hash said =
-    let w = worked_in fills hash said media (in_boxes film) is_absent is_place none_fails in
+pub bmff_succeeds : SomeBmffSucceeds
+bmff_succeeds hash said =
+    let w = worked_in hash said media (in_boxes film) is_absent is_place none_fails in
     (media, definition_file, message, w.0, refl, texts_in, w.1)

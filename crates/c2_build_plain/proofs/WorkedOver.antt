@@ -1,11 +1,12 @@
 -- A worked build over a file with a store: the media is the file that a worked build writes, and the definition that of `Worked` under
 -- another label. The store of the media is valid where the hash gives digests and judges approve its question.
-use Rattle.c2_definition.proofs.TheLaws.{each_definition_is_read_one_way_one}
+use Rattle.c2_definition.proofs.TheLaws.{definitions_are_well_formed, each_definition_is_read_one_way_one}
 use Rattle.std.proofs.Common.{◌≡◌, ℕ, ◌+◌, ◌<◌, ◌≤◌, Bool, true, false, bytes_eq, unwrap_or, List, [], ◌∷◌, ◌++◌, length, replicate, Option, Some, None, refl, sym, ap, ◌∙◌, subst, arith, codes, lit<, option_and_then, append-nil}
 use Rattle.std.specs.Prelude.{Ok, nat_lt, nat_le}
 use Rattle.std.specs.List.{AllZip, list_any}
 use Rattle.std.specs.Str.{is_utf8, chars}
 use Rattle.std.proofs.lemmas.Bool.{false≢true}
+use Rattle.c2_lemmas.proofs.Stages.{then_next, unless_some_passes}
 use Rattle.hex.proofs.OnLiterals.{hex_on_literals}
 use Rattle.uuid.proofs.OnLiterals.{uuid_on_literals}
 use Rattle.serde_json.proofs.OnLiterals.{serde_json_on_literals}
@@ -33,7 +34,7 @@ use Rattle.c2_definition.specs.DefinitionFile.{IsDefinition, assertions_in, defi
 use Rattle.c2_definition.specs.Json.{object_of}
 use Rattle.c2_definition.specs.declared.types.Definition.{Definition}
 use Rattle.c2_definition.specs.declared.types.NewAssertion.{NewAssertion}
-use Rattle.c2_new_signature.specs.Signed.{FillsOrNeedsMore, IsSigned}
+use Rattle.c2_new_signature.specs.Signed.{IsSigned}
 use Rattle.c2_new_file_spec.specs.Built.{HasDigestLen, no_digest}
 use Rattle.c2_new_file_spec.specs.Fresh.{GivesDigests, MeetsTheRules, fresh_content}
 use Rattle.c2_new_file_spec.specs.FreshBoxes.{contents_of, item_box, store_box}
@@ -47,34 +48,23 @@ use Rattle.c2_new_file_spec.specs.Redacting.{boxes_in, redacted_boxes}
 use Rattle.c2_new_file_spec.specs.Refusing.{has_manifest}
 use Rattle.c2_new_file_spec.specs.Films.{new_bmff_binding}
 use Rattle.c2_new_file_spec.specs.Bases.{IsLeft}
-use Rattle.c2_new_file_spec.specs.Laws.{PlaceSizeIsFixed}
-use Rattle.c2_new_file_spec.specs.Meeting.{FreshPlaceMeets}
+use Rattle.c2_new_file_spec.proofs.FileLaws.{a_new_store_has_one_length_in_its_place}
+use Rattle.c2_new_content_spec.proofs.SplitLaws.{a_file_built_in_its_place_meets_the_rules_fresh}
 use Rattle.c2_new_file_spec.specs.Places.{CanPut, HasRoom, IsFreePlace, Place, bound_text, in_boxes, in_segments, place_binding, place_file, place_question, place_start, place_store, put_bytes, range_len, store_len}
 use Rattle.c2_build_plain.specs.Building.{Built, IsBuilt, IsEmbedded, IsEmbeddedOn, built_of}
 use Rattle.c2_build_refusals.specs.Stages.{HasTextsIn, IsDefinitionStage, IsGroundOver, IsGroundStage, IsMediaStage, IsMessageStage, IsPlaceStage, MediaKind, fresh_ground, stored}
-use Rattle.c2_build_plain.specs.Meeting.{ApprovedIsValid}
 use Rattle.c2_build_refusals.specs.Refusals.{Ground, box_tests, first_refusal, ground_tests, late_tests, older_tests, place_tests, refuse_if, reserve_tests}
 use Rattle.c2_build_refusals.specs.declared.error.BuildError.{BuildError}
 use Rattle.c2_build_refusals.specs.declared.error.BuildError.TheVariants.{LabelTaken, MediaRefused, StoreTooLarge, TooManyManifests}
-use Rattle.c2_build_refusals.proofs.Stages.{none_of_both, then_next, unless_passes}
-use Rattle.c2_build_refusals.proofs.Inputs.{AreWellFormed, OneDefinition, OneItem}
+use Rattle.c2_build_refusals.proofs.Stages.{none_of_both}
 use Rattle.c2_build_refusals.proofs.Passing.{ground_of}
+use Rattle.c2_rules.proofs.Approving.{approved_is_valid}
 use Rattle.c2_build_plain.proofs.Rooms.{PassNumbers, pass_numbers}
 use Rattle.c2_build_plain.proofs.Worked.{defined, definition_file, is_defined, texts}
 use Rattle.c2_spec.specs.Digest.{zero_digest}
 use Rattle.c2_collect_spec.proofs.Order.{some_bytes}
 use Rattle.c2_collect_spec.proofs.WorkedFiles.{have_payloads}
 use Rattle.c2_collect_spec.proofs.Worked.{IsOneReading, accepted_message, all_approved, message, one_reading, parts, signed, spelled}
-
--- what laws say, of other crates and of this one
-pub record OverLaws : Type 0 where
-  pub definition : OneDefinition
-  pub formed : AreWellFormed
-  pub item : OneItem
-  pub fills : FillsOrNeedsMore
-  pub meets : FreshPlaceMeets
-  pub size : PlaceSizeIsFixed
-  pub valid : ApprovedIsValid
 
 -- ---- the definition
 
@@ -225,14 +215,15 @@ record IsFirst (hash : Alg → List ℕ → List ℕ) (file : List ℕ) (p : Pla
   put : put_bytes p (tree_bytes (older (hash Sha256) padded file p)) ≡ Some bytes
 
 -- the first file meets all rules but verdicts
-older_meets : OverLaws → (hash : Alg → List ℕ → List ℕ) → GivesDigests hash → {film : Bool} {file : List ℕ} {p : Place}
+older_meets : (hash : Alg → List ℕ → List ℕ) → GivesDigests hash → {film : Bool} {file : List ℕ} {p : Place}
     → IsWorked film file p → (padded bytes : List ℕ) (f : IsFirst hash file p padded bytes)
     → MeetsTheRules hash (place_file file p bytes) (place_start p) (range_len p first (length padded)) (older (hash Sha256) padded file p) (place_question (hash Sha256) first (length padded) file p (padded_read parts (fill_pairs f.signed.fill)) ∷ [])
-older_meets l hash digests {film} {file} {p} w padded bytes f =
-    l.meets hash first padded file bytes p (padded_read parts (fill_pairs f.signed.fill)) digests
+older_meets hash digests {film} {file} {p} w padded bytes f =
+    a_file_built_in_its_place_meets_the_rules_fresh hash first padded file bytes p
+    (padded_read parts (fill_pairs f.signed.fill)) digests
     (record { carried = refl; ingredients = refl; redact = refl })
-    (record { formed = l.formed definition_file defined is_defined; texts = texts }) (can_put w padded f.signed.filled)
-    f.signed.spelled f.put
+    (record { formed = definitions_are_well_formed definition_file defined is_defined; texts = texts })
+    (can_put w padded f.signed.filled) f.signed.spelled f.put
 
 -- ---- its check
 
@@ -311,12 +302,14 @@ second_len b p m label =
     label
 
 -- the first manifest is as long as one without digests
-first_len : PlaceSizeIsFixed → (hash : Alg → List ℕ → List ℕ) → GivesDigests hash → (padded file : List ℕ) (p : Place)
+first_len : (hash : Alg → List ℕ → List ℕ) → GivesDigests hash → (padded file : List ℕ) (p : Place)
     → length padded ≡ 64
     → length (tree_bytes (manifest (hash Sha256) padded file p)) ≡ length (tree_bytes (first_manifest (no_binding p)))
-first_len law hash digests padded file p filled =
+first_len hash digests padded file p filled =
     let same : length (tree_bytes (older (hash Sha256) padded file p)) ≡ store_len p first (length padded) =
-    law (hash Sha256) first p (range_len p first (length padded)) (hash Sha256 (bound_text file p)) padded (λ text. (digests Sha256 text).sized) (digests Sha256 (bound_text file p)).sized in
+    a_new_store_has_one_length_in_its_place (hash Sha256) first p (range_len p first (length padded))
+    (hash Sha256 (bound_text file p)) padded (λ text. (digests Sha256 text).sized)
+    (digests Sha256 (bound_text file p)).sized in
     by (manifest (hash Sha256) padded file p) (first_manifest (no_binding p))
     (same ∙ ap (store_len p first) filled ∙ length_in p first 64)
   where
@@ -325,12 +318,12 @@ first_len law hash digests padded file p filled =
     by m n e = omega (arith, e, store_len_is none m, store_len_is none n)
 
 -- the second store has so many bytes, with or without digests
-over_size : PlaceSizeIsFixed → (hash : Alg → List ℕ → List ℕ) → GivesDigests hash → (padded file : List ℕ) (p : Place)
+over_size : (hash : Alg → List ℕ → List ℕ) → GivesDigests hash → (padded file : List ℕ) (p : Place)
     → length padded ≡ 64 → store_len p (over (hash Sha256) padded file p) 64 ≡ total (no_binding p)
-over_size law hash digests padded file p filled =
+over_size hash digests padded file p filled =
     length_in p (over (hash Sha256) padded file p) 64
     ∙ by (no_binding p) (parent (hash Sha256) padded file p) (manifest (hash Sha256) padded file p) refl
-    (first_len law hash digests padded file p filled)
+    (first_len hash digests padded file p filled)
   where
     by : (b : NewAssertion) (q : NamedManifest) (m : Tree) → q.label ≡ defined.label
         → length (tree_bytes m) ≡ length (tree_bytes (first_manifest b))
@@ -362,18 +355,19 @@ abbrev ground : (List ℕ → List ℕ) → List ℕ → List ℕ → Place → 
 ground hash padded file p n = ground_of file (over hash padded file p) (n + 1)
 
 -- the first file is this to the second build
-older_ground : OverLaws → (hash : Alg → List ℕ → List ℕ) (said : Question → Verdict) → GivesDigests hash
+older_ground : (hash : Alg → List ℕ → List ℕ) (said : Question → Verdict) → GivesDigests hash
     → ((q : Question) → said q ≡ Approved) → {film : Bool} {file : List ℕ} {p : Place} → IsWorked film file p
     → (padded bytes : List ℕ) → IsFirst hash file p padded bytes
     → (n : ℕ) × (n ≡ 1) × IsGroundStage hash said (place_file file p bytes) second (stored (place_start p) (range_len p first (length padded)) (older (hash Sha256) padded file p)) (Ok (ground (hash Sha256) padded file p n))
-older_ground l hash said digests all {film} {file} {p} w padded bytes f =
+older_ground hash said digests all {film} {file} {p} w padded bytes f =
     let t : Tree = older (hash Sha256) padded file p in
     let len : ℕ = range_len p first (length padded) in
-    let m = older_meets l hash digests w padded bytes f in
+    let m = older_meets hash digests w padded bytes f in
     let r : StoreReading = m.reading in
     let found : Option Failing = first_failing (check_list hash said r) in
     let valid : IsValid hash said r =
-    l.valid hash said (manifests_of t) r m.reads.reads.each m.holds (all_approved said all (questions r.readings)) in
+    approved_is_valid hash said (manifests_of t) r m.reads.reads.each m.holds
+    (all_approved said all (questions r.readings)) in
     let none_found : found ≡ None = no_failing (check_list hash said r) valid in
     let one = older_reading (hash Sha256) padded file p r.readings m.reads.reads.each in
     let free : has_manifest r.readings second.label ≡ false =
@@ -388,7 +382,7 @@ older_ground l hash said digests all {film} {file} {p} w padded bytes f =
       (
         r,
         m.reads,
-        unless_passes (first_refusal (older_tests second r.readings found)) (IsGroundOver (place_file file p bytes) second (place_start p) len t r.readings) (Ok g) passes
+        unless_some_passes (first_refusal (older_tests second r.readings found)) (IsGroundOver (place_file file p bytes) second (place_start p) len t r.readings) (Ok g) passes
             (over (hash Sha256) padded file p, is_over (hash Sha256) padded file p, (file, left, refl)),
       ),
     )
@@ -401,11 +395,11 @@ SucceedsOver film hash said =
     × HasTextsIn definition × IsEmbedded hash said media definition message (Ok b)
 
 -- a build into the first file succeeds
-pub over_succeeds : OverLaws → (hash : Alg → List ℕ → List ℕ) (said : Question → Verdict) → GivesDigests hash
+pub over_succeeds : (hash : Alg → List ℕ → List ℕ) (said : Question → Verdict) → GivesDigests hash
     → ((q : Question) → said q ≡ Approved) → {film : Bool} {base : List ℕ} {p : Place} → IsWorked film base p
     → SucceedsOver film hash said
-over_succeeds l hash said digests all {film} {base} {p} w =
-    let filled = signed l.fills in
+over_succeeds hash said digests all {film} {base} {p} w =
+    let filled = signed in
     let padded : List ℕ = filled.0 in
     let t : Tree = older (hash Sha256) padded base p in
     let room : HasRoom p = (numbers w).room in
@@ -415,12 +409,12 @@ over_succeeds l hash said digests all {film} {base} {p} w =
     let len : ℕ = range_len p first (length padded) in
     let kind : MediaKind = stored (place_start p) len t in
     let opened : IsMediaStage file (Ok kind) =
-    (here (place_start p) len t, (older_meets l hash digests w padded put.0 f).opened, refl) in
-    let stage = older_ground l hash said digests all w padded put.0 f in
+    (here (place_start p) len t, (older_meets hash digests w padded put.0 f).opened, refl) in
+    let stage = older_ground hash said digests all w padded put.0 f in
     let g : Ground = ground (hash Sha256) padded base p stage.0 in
     let passes : first_refusal (late_tests g parts p) ≡ None =
     over_passes w (over (hash Sha256) padded base p) stage.0 refl stage.1
-    (over_size l.size hash digests padded base p filled.1.filled) in
+    (over_size hash digests padded base p filled.1.filled) in
     let bytes = some_bytes p room (tree_bytes (place_store (hash Sha256) g.content padded base p)) in
     let b : Built = built_of g p bytes.0 in
     let is_built : IsBuilt hash g p parts (Ok b) = (padded, filled.1, (bytes.0, bytes.1, refl)) in
@@ -430,5 +424,5 @@ over_succeeds l hash said digests all {film} {base} {p} w =
     (then_next (IsMessageStage second.protected message) _ parts (Ok b) (Ok parts, (accepted_message, spelled), refl)
     (then_next (IsGroundStage hash said file second kind) (IsEmbeddedOn hash parts) g (Ok b) stage.2
     (then_next (IsPlaceStage base) _ p (Ok b) (p, w.free.is, refl)
-    (unless_passes (first_refusal (late_tests g parts p)) (IsBuilt hash g p parts) (Ok b) passes is_built))))) in
+    (unless_some_passes (first_refusal (late_tests g parts p)) (IsBuilt hash g p parts) (Ok b) passes is_built))))) in
     (file, second_file, message, b, w.container put.0, (place_start p, len, t, opened), second_texts_in, embedded)

@@ -4,6 +4,7 @@ use Rattle.std.specs.Prelude.{◌≡◌, ℕ, List}
 use Rattle.std.specs.declared.option.Option.TheVariants.{Some}
 use Rattle.std.specs.declared.result.Result.{Result}
 use Rattle.std.specs.declared.result.Result.TheVariants.{Ok}
+use Rattle.c2_lemmas.specs.Stages.{AsksThen, Then, UnlessSome}
 use Rattle.c2_base.specs.declared.values.Question.{Question}
 use Rattle.c2_spec.specs.C2pa.Sign1.{SignParts, sig_structure}
 use Rattle.c2_spec.specs.Cbor.Deterministic.{deterministic}
@@ -16,7 +17,7 @@ use Rattle.c2_new_file_spec.specs.Store.{new_claim, new_alg}
 use Rattle.c2_new_file_spec.specs.Places.{Place, place_binding, place_file, place_start, place_store, put_bytes}
 use Rattle.c2_build_refusals.specs.Refusals.{Ground, first_refusal, ground_tests, late_tests, new_range_len}
 use Rattle.c2_build_refusals.specs.declared.error.BuildError.{BuildError}
-use Rattle.c2_build_refusals.specs.Stages.{AsksThen, IsDefinitionStage, IsGroundStage, IsMediaStage, IsMessageStage, IsPlaceStage, KindAsks, MediaKind, Then, Unless}
+use Rattle.c2_build_refusals.specs.Stages.{IsDefinitionStage, IsGroundStage, IsMediaStage, IsMessageStage, IsPlaceStage, KindAsks, MediaKind}
 
 -- ---- what is built
 
@@ -54,7 +55,7 @@ IsBuilt hash g p parts r =
 abbrev pub IsPlannedOn : (Alg → List ℕ → List ℕ) → Ground → Result (List ℕ) BuildError → Type 0
 IsPlannedOn hash g =
     Then (IsPlaceStage g.base) (λ p.
-    Unless (first_refusal (ground_tests g p)) (λ r. r ≡ Ok (signed_bytes hash g p)))
+    UnlessSome (first_refusal (ground_tests g p)) (λ r. r ≡ Ok (signed_bytes hash g p)))
 
 -- what `plan` comes to over a media file of this kind, with this definition
 abbrev pub IsPlannedOver : (Alg → List ℕ → List ℕ) → (Question → Verdict) → List ℕ → MediaKind → Definition
@@ -72,7 +73,7 @@ IsPlanned hash said media definition =
 abbrev pub IsEmbeddedOn : (Alg → List ℕ → List ℕ) → SignParts → Ground → Result Built BuildError → Type 0
 IsEmbeddedOn hash parts g =
     Then (IsPlaceStage g.base) (λ p.
-    Unless (first_refusal (late_tests g parts p)) (IsBuilt hash g p parts))
+    UnlessSome (first_refusal (late_tests g parts p)) (IsBuilt hash g p parts))
 
 -- what `embed` comes to over a media file of this kind, with this definition and a message with these parts
 abbrev pub IsEmbeddedOver : (Alg → List ℕ → List ℕ) → (Question → Verdict) → List ℕ → MediaKind → Definition

@@ -2,7 +2,6 @@
 use Rattle.std.specs.Prelude.{◌≡◌, ℕ, ◌<◌, ◌^◌, ⊤, Bool, true, List, [], ◌∷◌, All, take, drop}
 use Rattle.std.specs.declared.result.Result.{Result}
 use Rattle.std.specs.declared.result.Result.TheVariants.{Ok, Err}
-use Rattle.std.specs.List.{AllByRecursion}
 use Rattle.c2_base.specs.declared.values.Question.{Question}
 use Rattle.c2_spec.specs.Bmff.Boxes.{Box, box_bytes}
 use Rattle.c2_spec.specs.Bmff.Writing.{freed}
@@ -14,7 +13,7 @@ use Rattle.c2_spec.specs.PutIn.{taken_out}
 use Rattle.c2_spec.specs.declared.digest.Alg.{Alg}
 use Rattle.c2_spec.specs.declared.panel.Verdict.{Verdict}
 use Rattle.c2_spec.specs.declared.panel.Verdict.TheVariants.{Approved}
-use Rattle.c2_rules.specs.CheckList.{IsValid, StoreReading, check_list, questions, unjudged_list}
+use Rattle.c2_rules.specs.CheckList.{AreApproved, IsValid, StoreReading, check_list, questions, unjudged_list}
 use Rattle.c2_rules.specs.Readings.{AreReadings}
 use Rattle.c2_rules.specs.Tests.{AllHold, first_failing}
 use Rattle.c2_rules.specs.Validated.{AreQuestions, IsAnswer, IsFileReading}
@@ -97,10 +96,6 @@ UnrefusedIsEmbedded = (hash : Alg → List ℕ → List ℕ) (said : Question �
     → (b : Built) × IsEmbedded hash said media definition message (Ok b)
 
 -- ---- verdicts
-
--- each of these questions is approved
-abbrev pub AreApproved : (Question → Verdict) → List Question → Type 0
-AreApproved said qs = AllByRecursion (λ (q : Question). said q ≡ Approved) qs
 
 -- Approval of every question is all that a store lacks whose other rules hold.
 abbrev pub ApprovedIsValid : Type 0

@@ -5,6 +5,7 @@ use Rattle.std.specs.declared.option.Option.TheVariants.{Some, None}
 use Rattle.std.specs.declared.result.Result.{Result}
 use Rattle.std.specs.declared.result.Result.TheVariants.{Ok, Err}
 use Rattle.std.specs.Option.{ForSome}
+use Rattle.c2_lemmas.specs.Stages.{Then}
 use Rattle.c2_base.specs.declared.values.Question.{Question}
 use Rattle.c2_spec.specs.Jumbf.Tree.{tree_bytes}
 use Rattle.c2_spec.specs.declared.digest.Alg.{Alg}
@@ -14,7 +15,7 @@ use Rattle.c2_new_file_spec.specs.Store.{new_alg}
 use Rattle.c2_new_file_spec.specs.Places.{Place, place_store, put_bytes}
 use Rattle.c2_build_refusals.specs.Kinds.{ComesAs, IsSourceCause, WithoutFault, kind_of}
 use Rattle.c2_build_refusals.specs.Refusals.{Ground, first_refusal, ground_tests}
-use Rattle.c2_build_refusals.specs.Stages.{HasTextsIn, IsDefinitionStage, IsDefinitionTold, IsGroundStage, IsMessageStage, IsMessageTold, IsPlaceStage, MediaKind, Then}
+use Rattle.c2_build_refusals.specs.Stages.{HasTextsIn, IsDefinitionStage, IsDefinitionTold, IsGroundStage, IsMessageStage, IsMessageTold, IsPlaceStage, MediaKind}
 use Rattle.c2_build_refusals.specs.declared.error.BuildError.{BuildError}
 use Rattle.c2_build_refusals.specs.declared.types.Drafted.{Drafted}
 use Rattle.c2_build_drafts.specs.Drafts.{FitsMedia, IsOver}

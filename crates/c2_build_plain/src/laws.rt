@@ -5,8 +5,6 @@ ghost use Rattle.c2_build_plain.specs.Meeting.{SomeBmffSucceeds};
 ghost use Rattle.c2_build_plain.specs.Meeting.{OneEmbedding, OnePlan, SomeEmbedding, SomePlan};
 ghost use Rattle.c2_build_plain.specs.Meeting.{UnrefusedIsEmbedded, UnrefusedIsPlanned};
 
-use c2_validate::each_file_has_a_check;
-
 /// The same inputs come to one thing: the bytes that are to be signed, the new file, or what is refused first.
 pub fn a_build_comes_to_one_thing()
     ensures plan { OnePlan }
@@ -17,18 +15,14 @@ pub fn a_build_comes_to_one_thing()
 pub fn each_build_comes_to_something()
     ensures plan { SomePlan }
     ensures embedding { SomeEmbedding }
-{
-    each_file_has_a_check();
-}
+{}
 
 /// Inputs on which no refusal has its condition come to something: to bytes that are to be signed, and to a new file. So a call over them
 /// answers that, or a fault of what it reads, asks or writes, or that memory ran out.
 pub fn unrefused_inputs_are_built()
     ensures plan { UnrefusedIsPlanned }
     ensures embedding { UnrefusedIsEmbedded }
-{
-    each_build_comes_to_something();
-}
+{}
 
 /// A store whose other rules hold lacks nothing but the approval of its questions.
 pub fn approval_of_each_question_is_enough()

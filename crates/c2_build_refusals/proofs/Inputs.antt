@@ -1,23 +1,18 @@
 -- What the inputs of a build come to: one thing each, by what calls of other crates answered.
 use Rattle.c2_opening.proofs.TheLaws.{one_opening_file}
-use Rattle.c2_definition.proofs.TheLaws.{each_definition_is_read_one_way_one, each_definition_is_read_one_way_some}
+use Rattle.c2_definition.proofs.TheLaws.{definitions_are_well_formed, each_definition_is_read_one_way_one, each_definition_is_read_one_way_some}
 use Rattle.c2_new_signature.proofs.TheLaws.{one_message_read, some_message_read}
-use Rattle.c2_lemmas.proofs.Stages.{one_stage, some_stage, stage_value}
+use Rattle.c2_lemmas.proofs.Stages.{IsOne, Something, one_stage, some_stage, stage_value}
 use Rattle.std.proofs.Common.{◌≡◌, ◌⊎◌, inl, inr, ℕ, Bool, List, length, refl, sym, ap, subst, ◌^◌, ◌<◌, All, cond, arith}
 use Rattle.std.specs.Prelude.{Result, Ok, Err}
 use Rattle.c2_spec.specs.C2pa.Sign1.{SignParts, SpellsMessage}
-use Rattle.c2_spec.specs.Cbor.Item.{Item}
-use Rattle.c2_spec.specs.Cbor.Spelling.{Spells}
-use Rattle.c2_spec.specs.Jumbf.Tree.{Tree}
-use Rattle.c2_spec.specs.Located.{Opening}
 use Rattle.c2_rules.specs.Opened.{IsOpened}
 use Rattle.c2_definition.specs.DefinitionFile.{IsDefinition, IsWellFormed, Agrees, definition_in, definition_of}
 use Rattle.c2_definition.specs.declared.types.Definition.{Definition}
 use Rattle.c2_definition.specs.declared.types.DefinitionField.{DefinitionField}
-use Rattle.c2_new_signature.specs.Message.{RefusedForOne, IsAccepted, IsMessageRead}
+use Rattle.c2_new_signature.specs.Message.{IsAccepted, IsMessageRead}
 use Rattle.c2_new_signature.specs.declared.error.SignaturePart.{SignaturePart}
 use Rattle.c2_build_refusals.specs.Stages.{IsDefinitionRefused, IsDefinitionStage, IsMediaRefused, IsMediaStage, IsMessageRefused, IsMessageStage, MediaKind, definition_stage, media_stage, message_stage}
-use Rattle.c2_build_refusals.proofs.Stages.{IsOne, Something}
 use Rattle.c2_build_refusals.specs.declared.error.BuildError.{BuildError}
 use Rattle.std.proofs.lemmas.Bool.{lt-ltb}
 use Rattle.c2_base.specs.declared.limits.TheConstants.{MAX_INPUT_LEN}
@@ -31,29 +26,6 @@ use Rattle.c2_new_signature.specs.declared.error.SignaturePart.TheVariants as pa
 use Rattle.c2_build_refusals.specs.declared.error.BuildError.TheVariants.{BadDefinition, BadSignature}
 use Rattle.c2_definition.specs.Json.{object_of}
 use Rattle.c2_spec.specs.Cbor.Fields.{require}
-
--- ---- what laws of other crates say
-
--- a file is opened as one thing
-abbrev pub OneOpened : Type 0
-OneOpened = (file : List ℕ) (a b : Opening Tree) → IsOpened file a → IsOpened file b → a ≡ b
-
--- a file is one definition, or one thing of it is refused first
-abbrev pub OneDefinition : Type 0
-OneDefinition =
-    (file : List ℕ) (r s : Result Definition DefinitionField) → IsDefinition file r → IsDefinition file s → r ≡ s
-
--- bytes spell one item
-abbrev pub OneItem : Type 0
-OneItem = (v w : Item) (s : List ℕ) → Spells v s → Spells w s → v ≡ w
-
--- each file is a definition, or one thing of it is refused first
-abbrev pub EachDefinition : Type 0
-EachDefinition = (file : List ℕ) → (r : Result Definition DefinitionField) × IsDefinition file r
-
--- a definition that a file is is well formed
-abbrev pub AreWellFormed : Type 0
-AreWellFormed = (file : List ℕ) (d : Definition) → IsDefinition file (Ok d) → IsWellFormed d
 
 -- ---- the media
 
@@ -96,8 +68,8 @@ pub some_definition : (file : List ℕ) → Something (IsDefinitionStage file)
 some_definition file = some_stage definition_stage (IsDefinition file) (each_definition_is_read_one_way_some file)
 
 -- a definition that was read is well formed
-pub read_formed : AreWellFormed → (file : List ℕ) (d : Definition) → IsDefinitionStage file (Ok d) → IsWellFormed d
-read_formed law file d h = law file d (stage_value BadDefinition (IsDefinition file) d h)
+pub read_formed : (file : List ℕ) (d : Definition) → IsDefinitionStage file (Ok d) → IsWellFormed d
+read_formed file d h = definitions_are_well_formed file d (stage_value BadDefinition (IsDefinition file) d h)
 
 -- a definition file that is too long is refused for its size
 pub long_definition : (file : List ℕ) → MAX_INPUT_LEN < length file
@@ -126,25 +98,27 @@ is_bad file f e is agrees =
 -- ---- the message
 
 -- a message has one outcome in a build
-pub one_message : RefusedForOne → (protected bytes : List ℕ) → IsOne (IsMessageStage protected bytes)
-one_message law protected bytes =
-    one_stage message_stage (IsMessageRead protected bytes) (one_message_read law protected bytes)
+pub one_message : (protected bytes : List ℕ) → IsOne (IsMessageStage protected bytes)
+one_message protected bytes =
+    one_stage message_stage (IsMessageRead protected bytes)
+    (one_message_read protected bytes)
 
 -- a message that is refused isn't one that isn't
-pub not_both_messages : RefusedForOne → (definition message : List ℕ) (d : Definition) (p : SignParts) {P : Type 0}
+pub not_both_messages : (definition message : List ℕ) (d : Definition) (p : SignParts) {P : Type 0}
     → IsDefinitionStage definition (Ok d) → IsMessageStage d.protected message (Ok p)
     → IsMessageRefused definition message → P
-not_both_messages refusals definition message d p {P} is stage refused =
+not_both_messages definition message d p {P} is stage refused =
     let same : refused.0 ≡ d =
     same_definition refused.0 d (one_definition definition (Ok refused.0) (Ok d) refused.1 is) in
     let bad = subst (λ (x : Definition). IsMessageStage x.protected message (Err refused.2.0)) same refused.2.1 in
-    absurd (let both = one_message refusals d.protected message (Ok p) (Err refused.2.0) stage bad in cc (both))
+    absurd (let both = one_message d.protected message (Ok p) (Err refused.2.0) stage bad in cc (both))
 
 -- each message comes to something
-pub some_message : RefusedForOne → (protected bytes : List ℕ) → All (λ b. b < 2 ^ 8) bytes
+pub some_message : (protected bytes : List ℕ) → All (λ b. b < 2 ^ 8) bytes
     → Something (IsMessageStage protected bytes)
-some_message law protected bytes are =
-    some_stage message_stage (IsMessageRead protected bytes) (some_message_read law protected bytes are)
+some_message protected bytes are =
+    some_stage message_stage (IsMessageRead protected bytes)
+    (some_message_read protected bytes are)
 
 -- a message that is too long is refused for its size
 pub long_message : (protected file : List ℕ) → MAX_INPUT_LEN < length file

@@ -2,10 +2,11 @@
 -- the place in it. Known inputs come to one thing: the order of the tests is this project's own choice.
 use Rattle.std.specs.Prelude.{◌≡◌, ◌⊎◌, ℕ, ◌+◌, List, [], length}
 use Rattle.std.specs.declared.option.Option.{Option}
-use Rattle.std.specs.declared.option.Option.TheVariants.{Some, None}
+use Rattle.std.specs.declared.option.Option.TheVariants.{Some}
 use Rattle.std.specs.declared.result.Result.{Result}
 use Rattle.std.specs.declared.result.Result.TheVariants.{Ok, Err}
 use Rattle.std.specs.Option.{ForSome}
+use Rattle.c2_lemmas.specs.Stages.{UnlessSome}
 use Rattle.c2_base.specs.Source.{IsKnownWhereDue}
 use Rattle.c2_base.specs.declared.values.Question.{Question}
 use Rattle.c2_spec.specs.C2pa.Sign1.{SignParts}
@@ -32,24 +33,6 @@ use Rattle.c2_new_file_spec.specs.Places.{IsPlace, Place}
 use Rattle.c2_build_refusals.specs.Refusals.{Ground, first_refusal, older_tests, redaction_tests}
 use Rattle.c2_build_refusals.specs.declared.error.BuildError.{BuildError}
 use Rattle.c2_build_refusals.specs.declared.error.BuildError.TheVariants.{MediaRefused, BadDefinition, BadSignature}
-
--- ---- one stage after the other
-
--- what comes after a stage: what was refused stays refused
-abbrev pub After : {A B : Type 0} → (A → Result B BuildError → Type 0) → Result A BuildError → Result B BuildError → Type 0
-After Next (Ok a) r = Next a r
-After Next (Err e) r = r ≡ Err e
-
--- A stage comes to something, and what comes after it to this.
-pub record Then {A B : Type 0} (First : Result A BuildError → Type 0) (Next : A → Result B BuildError → Type 0) (r : Result B BuildError) : Type 0 where
-  pub first : Result A BuildError
-  pub is_first : First first
-  pub next : After Next first r
-
--- what comes after tests: the first of them that fails refuses
-abbrev pub Unless : {A : Type 0} → Option BuildError → (Result A BuildError → Type 0) → Result A BuildError → Type 0
-Unless None Next r = Next r
-Unless (Some e) Next r = r ≡ Err e
 
 -- ---- the inputs
 
@@ -151,10 +134,10 @@ IsGroundOver media d start len t rs r =
 abbrev pub IsGroundStage : (Alg → List ℕ → List ℕ) → (Question → Verdict) → List ℕ → Definition → MediaKind
     → Result Ground BuildError → Type 0
 IsGroundStage hash said media d fresh r =
-    Unless (first_refusal (redaction_tests d [])) (λ r. r ≡ Ok (fresh_ground media d)) r
+    UnlessSome (first_refusal (redaction_tests d [])) (λ r. r ≡ Ok (fresh_ground media d)) r
 IsGroundStage hash said media d (stored start len t) r =
     (s : StoreReading) × IsFileReading media t s
-    × Unless (first_refusal (older_tests d s.readings (first_failing (check_list hash said s))))
+    × UnlessSome (first_refusal (older_tests d s.readings (first_failing (check_list hash said s))))
     (IsGroundOver media d start len t s.readings) r
 
 -- ---- the place
@@ -169,14 +152,3 @@ IsPlaceStage base r = (p : Place) × IsPlace base p × (r ≡ Ok p)
 abbrev pub KindAsks : (Alg → List ℕ → List ℕ) → (Question → Verdict) → List ℕ → MediaKind → List Question → Type 0
 KindAsks hash said media fresh qs = qs ≡ []
 KindAsks hash said media (stored start len t) qs = CheckAsks hash said media qs
-
--- nothing is asked behind a stage that refuses
-abbrev pub AskedBehind : {A : Type 0} → Result A BuildError → (A → List Question → Type 0) → List Question → Type 0
-AskedBehind (Ok a) Asks qs = Asks a qs
-AskedBehind (Err e) Asks qs = qs ≡ []
-
--- A stage comes to something, and what is asked behind it is this.
-pub record AsksThen {A : Type 0} (First : Result A BuildError → Type 0) (Asks : A → List Question → Type 0) (qs : List Question) : Type 0 where
-  pub first : Result A BuildError
-  pub is_first : First first
-  pub asks : AskedBehind first Asks qs

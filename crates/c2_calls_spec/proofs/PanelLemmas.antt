@@ -5,7 +5,7 @@ use Rattle.std.specs.declared.alloc.Global.{Global}
 use Rattle.std.specs.declared.vec.Vec.{Vec}
 use Rattle.c2_base.specs.declared.values.Question.{Question}
 use Rattle.c2_spec.specs.declared.panel.Verdict.{Verdict}
-use Rattle.c2_spec.specs.Judges.Panel.{AsksPanel, Judges, LeavesJudges, NoneFell, judges_of, panel_says}
+use Rattle.c2_spec.specs.Judges.Panel.{AsksJudges, Judges, LeavesJudges, NoneFell, judges_of, panel_says}
 use Rattle.c2_rules.specs.Asking.{HasHeard, HasHeardSoFar, HaveAsked, HaveAskedPrefix, HaveFailed, HearsPanel, Heard, IsJudgeCause, all, broken, part}
 use Rattle.c2_rules.proofs.AskingLemmas.{asked_append, asked_some, failed_append, failed_more, failed_some, front_all, front_append, front_more, front_none, leaves_err, leaves_ok, stays}
 use Rattle.c2_calls_spec.specs.Asks.{AsksThese}
@@ -48,7 +48,7 @@ pub hears_one :
     {J T E F : Type 0} (says : J → Question → Verdict) (times faults : J → ℕ) (heard : F → Heard)
     (old new : Vec J Global) (o : Option Question) (q : Question) (v : Verdict) (x : T)
     → o ≡ Some q
-    → AsksPanel {E = E} q (judges_of says times faults old.items) (judges_of says times faults new.items) (Ok v)
+    → AsksJudges {E = E} q (judges_of says times faults old.items) (judges_of says times faults new.items) (Ok v)
     → LeavesJudges {T = Verdict} {E = E} (judges_of says times faults old.items) (judges_of says times faults new.items) (Ok v)
     → vec_len new ≡ vec_len old
     → HearsPanel {E = F} says times faults heard (AsksThese (option_to_list o)) old new (Ok x)
@@ -66,7 +66,7 @@ pub hears_failed :
     {J T E F : Type 0} (says : J → Question → Verdict) (times faults : J → ℕ) (heard : F → Heard)
     (old new : Vec J Global) (o : Option Question) (q : Question) (e : E) (f : F)
     → o ≡ Some q → broken ≡ heard f
-    → AsksPanel {E = E} q (judges_of says times faults old.items) (judges_of says times faults new.items) (Err e)
+    → AsksJudges {E = E} q (judges_of says times faults old.items) (judges_of says times faults new.items) (Err e)
     → LeavesJudges {T = Verdict} {E = E} (judges_of says times faults old.items) (judges_of says times faults new.items) (Err e)
     → vec_len new ≡ vec_len old
     → HearsPanel {T = T} says times faults heard (AsksThese (option_to_list o)) old new (Err f)

@@ -19,7 +19,7 @@ use Rattle.c2_cmd.specs.Left.{KeepsOut, LeavesOut}
 use Rattle.c2_new_file_spec.specs.Fresh.{GivesDigests}
 use Rattle.c2_cmd.specs.Outcome.{has_whole_report}
 use Rattle.c2_cmd.specs.Run.{Call, ComesTo, Faults, HasAll, HasAnswered, IsCaused, RepliesTo, RunState, RunsTo, SinkFailed}
-use Rattle.c2_cmd.proofs.Delivering.{EachOutcome, asked_failed, asked_whole, comes_to, file_before, file_delivered, file_failed, first_filed, first_unwritten, no_fault, report_failed, undone, whole_answered, whole_failed, whole_where_filed, wrote_all, wrote_prefix}
+use Rattle.c2_cmd.proofs.Delivering.{asked_failed, asked_whole, comes_to, file_before, file_delivered, file_failed, first_filed, first_unwritten, no_fault, report_failed, undone, whole_answered, whole_failed, whole_where_filed, wrote_all, wrote_prefix}
 use Rattle.c2_cmd.proofs.Causing.{no_output}
 use Rattle.c2_cmd.proofs.Keeping.{unanswered, without}
 use Rattle.c2_cmd_outcome.proofs.Replying.{written_behind}
@@ -89,14 +89,14 @@ cause_untold failed = record {
 -- ---- a run whose sources are known
 
 -- a run whose sources are known has an outcome, and ends as that says
-pub ends_known : {call : Call} {old new : RunState} {Same : Type 0} {s : Status} → EachOutcome
+pub ends_known : {call : Call} {old new : RunState} {Same : Type 0} {s : Status}
     → ForSome call.known.media (All (λ b. b < 2 ^ 8)) → ForSome call.known.second (All (λ b. b < 2 ^ 8))
     → ForSome call.known.third (All (λ b. b < 2 ^ 8)) → ForSome call.known.fourth (All (λ b. b < 2 ^ 8))
     → GivesDigests call.hash
     → ((expected : Outcome) → ComesTo call expected → RunsTo call expected old new Same s)
     → (expected : Outcome) × ComesTo call expected × RunsTo call expected old new Same s
-ends_known {call} law media second third fourth gives runs =
-    let e = comes_to law call media second third fourth gives in (e.0, e.1, runs e.0 e.1)
+ends_known {call} media second third fourth gives runs =
+    let e = comes_to call media second third fourth gives in (e.0, e.1, runs e.0 e.1)
 
 -- a file that was taken with a reply is all there
 has_all : (file : Option (List ℕ)) (reply : Reply) (old new : SinkState) → TakesFile file old new (Ok reply)

@@ -1,16 +1,13 @@
 -- Words and inputs come to one outcome, and to one list of questions.
-use Rattle.c2_cmd_collect.proofs.TheLaws.{one_collect_outcome_outcome}
-use Rattle.c2_cmd_building.proofs.TheLaws.{one_building_outcome_outcome}
+use Rattle.c2_cmd_collect.proofs.TheLaws.{one_collect_outcome_outcome, one_collect_outcome_questions}
+use Rattle.c2_cmd_building.proofs.TheLaws.{one_building_outcome_outcome, one_building_outcome_questions}
 use Rattle.c2_cmd_strip.proofs.TheLaws.{a_strip_comes_to_one_outcome_once}
 use Rattle.c2_cmd_extract.proofs.TheLaws.{an_extract_comes_to_one_outcome_once}
-use Rattle.c2_cmd_reading.proofs.TheLaws.{one_reading_outcome_outcome}
+use Rattle.c2_cmd_reading.proofs.TheLaws.{one_reading_outcome_outcome, one_reading_outcome_questions}
 use Rattle.c2_cmd_front.proofs.TheLaws.{one_front_outcome_embed, one_front_outcome_plan}
 use Rattle.std.proofs.Common.{◌≡◌, sym, ◌∙◌, List, Option, Some, None}
 use Rattle.c2_base.specs.declared.values.Question.{Question}
-use Rattle.c2_cmd_building.specs.Laws.{OneBuildingQuestions}
-use Rattle.c2_cmd_collect.specs.Laws.{OneCollectQuestions}
 use Rattle.c2_cmd_outcome.specs.Outcome.{Outcome}
-use Rattle.c2_cmd_reading.specs.Laws.{OneReadingQuestions}
 use Rattle.c2_usage.specs.declared.types.Command.{Command}
 use Rattle.c2_usage.specs.declared.types.Command.TheVariants as command
 use Rattle.c2_usage.specs.declared.types.Roles.{Roles}
@@ -51,34 +48,35 @@ one_outcome None i x y h k = h ∙ sym k
 one_outcome (Some roles) i x y h k = one_command roles.command roles i x y h k
 
 -- a command has one list of questions at most for what it is handed
-one_asks : OneReadingQuestions → OneBuildingQuestions → OneCollectQuestions → (c : Command) (roles : Roles) (i : Inputs)
-    (ps qs : List Question) → CommandAsks c roles i ps → CommandAsks c roles i qs → ps ≡ qs
-one_asks reads builds collects command.Digest roles i ps qs h k = h ∙ sym k
-one_asks reads builds collects command.List roles i ps qs h k = h ∙ sym k
-one_asks reads builds collects command.Show roles i ps qs h k = h ∙ sym k
-one_asks reads builds collects command.Questions roles i ps qs h k = reads.questions i.files.media ps qs h k
-one_asks reads builds collects command.Validate roles i ps qs h k = reads.validate i.hash i.said i.files.media ps qs h k
-one_asks reads builds collects command.Compare roles i ps qs h k =
-    reads.compare i.hash i.said i.files.media i.files.second ps qs h k
-one_asks reads builds collects command.Plan roles i ps qs h k =
-    builds.plan i.hash i.said i.files.media i.files.second ps qs h k
-one_asks reads builds collects command.Embed roles i ps qs h k =
-    builds.embed i.hash i.said i.files.media i.files.second i.files.third ps qs h k
-one_asks reads builds collects command.Sample roles i ps qs h k =
-    builds.sample i.hash i.said (pieces_in roles) ps qs h k
-one_asks reads builds collects command.Strip roles i ps qs h k = h ∙ sym k
-one_asks reads builds collects command.Extract roles i ps qs h k = h ∙ sym k
-one_asks reads builds collects command.ValidateExternal roles i ps qs h k =
-    reads.external i.hash i.said i.files.media i.files.second ps qs h k
-one_asks reads builds collects command.PlanFront roles i ps qs h k = h ∙ sym k
-one_asks reads builds collects command.EmbedFront roles i ps qs h k = h ∙ sym k
-one_asks reads builds collects command.PlanCollect roles i ps qs h k =
-    collects.plan i.hash i.said i.files.media i.files.second i.files.fourth ps qs h k
-one_asks reads builds collects command.EmbedCollect roles i ps qs h k =
-    collects.embed i.hash i.said i.files.media i.files.second i.files.third i.files.fourth ps qs h k
+one_asks : (c : Command) (roles : Roles) (i : Inputs) (ps qs : List Question) → CommandAsks c roles i ps
+    → CommandAsks c roles i qs → ps ≡ qs
+one_asks command.Digest roles i ps qs h k = h ∙ sym k
+one_asks command.List roles i ps qs h k = h ∙ sym k
+one_asks command.Show roles i ps qs h k = h ∙ sym k
+one_asks command.Questions roles i ps qs h k = one_reading_outcome_questions.questions i.files.media ps qs h k
+one_asks command.Validate roles i ps qs h k =
+    one_reading_outcome_questions.validate i.hash i.said i.files.media ps qs h k
+one_asks command.Compare roles i ps qs h k =
+    one_reading_outcome_questions.compare i.hash i.said i.files.media i.files.second ps qs h k
+one_asks command.Plan roles i ps qs h k =
+    one_building_outcome_questions.plan i.hash i.said i.files.media i.files.second ps qs h k
+one_asks command.Embed roles i ps qs h k =
+    one_building_outcome_questions.embed i.hash i.said i.files.media i.files.second i.files.third ps qs h k
+one_asks command.Sample roles i ps qs h k =
+    one_building_outcome_questions.sample i.hash i.said (pieces_in roles) ps qs h k
+one_asks command.Strip roles i ps qs h k = h ∙ sym k
+one_asks command.Extract roles i ps qs h k = h ∙ sym k
+one_asks command.ValidateExternal roles i ps qs h k =
+    one_reading_outcome_questions.external i.hash i.said i.files.media i.files.second ps qs h k
+one_asks command.PlanFront roles i ps qs h k = h ∙ sym k
+one_asks command.EmbedFront roles i ps qs h k = h ∙ sym k
+one_asks command.PlanCollect roles i ps qs h k =
+    one_collect_outcome_questions.plan i.hash i.said i.files.media i.files.second i.files.fourth ps qs h k
+one_asks command.EmbedCollect roles i ps qs h k =
+    one_collect_outcome_questions.embed i.hash i.said i.files.media i.files.second i.files.third i.files.fourth ps qs h
+    k
 
 -- a call has one list of questions at most, whether its words fit a command or none
-pub one_list : OneReadingQuestions → OneBuildingQuestions → OneCollectQuestions
-    → (roles : Option Roles) (i : Inputs) (ps qs : List Question) → Asks roles i ps → Asks roles i qs → ps ≡ qs
-one_list reads builds collects None i ps qs h k = h ∙ sym k
-one_list reads builds collects (Some roles) i ps qs h k = one_asks reads builds collects roles.command roles i ps qs h k
+pub one_list : (roles : Option Roles) (i : Inputs) (ps qs : List Question) → Asks roles i ps → Asks roles i qs → ps ≡ qs
+one_list None i ps qs h k = h ∙ sym k
+one_list (Some roles) i ps qs h k = one_asks roles.command roles i ps qs h k

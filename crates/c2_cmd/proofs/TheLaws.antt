@@ -1,9 +1,7 @@
 -- The laws of this crate, for the proofs of the crates above it.
+use Rattle.c2_cmd.proofs.EachOutcome.{each_list, each_outcome}
 use Rattle.c2_cmd.proofs.OneOutcome.{one_list, one_outcome}
-use Rattle.c2_cmd.specs.Laws.{OneListOfQuestions, OneOutcome}
-use Rattle.c2_cmd_building.proofs.TheLaws.{one_building_outcome_questions}
-use Rattle.c2_cmd_collect.proofs.TheLaws.{one_collect_outcome_questions}
-use Rattle.c2_cmd_reading.proofs.TheLaws.{one_reading_outcome_questions}
+use Rattle.c2_cmd.specs.Laws.{OneListOfQuestions, OneOutcome, SomeListOfQuestions, SomeOutcome}
 
 -- words and inputs come to one outcome at most
 pub one_outcome_outcome : OneOutcome
@@ -11,5 +9,12 @@ one_outcome_outcome = one_outcome
 
 -- and ask one list of questions at most
 pub one_outcome_questions : OneListOfQuestions
-one_outcome_questions =
-    one_list one_reading_outcome_questions one_building_outcome_questions one_collect_outcome_questions
+one_outcome_questions = one_list
+
+-- words and inputs whose files are bytes come to an outcome
+pub each_run_has_an_outcome_outcome : SomeOutcome
+each_run_has_an_outcome_outcome = each_outcome
+
+-- and ask a list of questions
+pub each_run_has_an_outcome_questions : SomeListOfQuestions
+each_run_has_an_outcome_questions = each_list

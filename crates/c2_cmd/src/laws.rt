@@ -2,11 +2,6 @@
 ghost use Rattle.c2_cmd.specs.Laws.{AnswersWhereNothingFails, OneListOfQuestions, OneOutcome};
 ghost use Rattle.c2_cmd.specs.Laws.{SomeListOfQuestions, SomeOutcome};
 
-use c2_cmd_building::each_building_outcome;
-use c2_cmd_collect::each_collect_outcome;
-use c2_cmd_front::each_front_outcome;
-use c2_cmd_reading::each_reading_outcome;
-
 /// Words and inputs come to one outcome at most, and to one list of questions at most.
 pub fn one_outcome()
     ensures outcome { OneOutcome }
@@ -17,12 +12,7 @@ pub fn one_outcome()
 pub fn each_run_has_an_outcome()
     ensures outcome { SomeOutcome }
     ensures questions { SomeListOfQuestions }
-{
-    each_reading_outcome();
-    each_building_outcome();
-    each_front_outcome();
-    each_collect_outcome();
-}
+{}
 
 /// A run of which no object that its command names fails has answered, or memory ran out: so say `cause` and the field `complete` of
 /// `run`'s clause `known` together.

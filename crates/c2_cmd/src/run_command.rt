@@ -15,7 +15,6 @@ ghost use Rattle.c2_cmd.specs.Run.{ComesTo, Faults, IsCaused, IsKnown, LeavesUnu
 ghost use Rattle.c2_cmd.specs.Run.{RunStates, RunsTo, Untouched, after, before, call_of};
 ghost use Rattle.c2_cmd.specs.Run.{panel_states, roles_in};
 
-use crate::laws::each_run_has_an_outcome;
 use c2_base::{Failed, Sink, Source, write_all};
 use c2_cmd_building::{reply_to_embed, reply_to_plan, reply_to_sample};
 use c2_cmd_collect::{reply_to_embed_collect, reply_to_plan_collect};
@@ -140,7 +139,6 @@ pub fn run<H: Hashing, A: Source, B: Source, C: Source, D: Source, K: Sink, W: S
     ensures judges { KeepsPanel says asked_times judge_faults judges.old.items judges.new.items
         result }
 {
-    each_run_has_an_outcome();
     let reply = match reply_to(
         alloc, hashing, words, media, second, third, fourth, out, report, judges,
     ) {

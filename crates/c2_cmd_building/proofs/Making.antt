@@ -1,4 +1,5 @@
 -- What `embed` replies and writes, by the call below it.
+use Rattle.c2_build_plain.proofs.TheLaws.{a_build_comes_to_one_thing_embedding}
 use Rattle.std.proofs.Common.{◌≡◌, refl, sym, ap, ◌∙◌, ℕ, Bool, List, Option}
 use Rattle.std.specs.Prelude.{IfErr, IfOk, OnOk, Ok, Err}
 use Rattle.std.specs.declared.result.Result.{Result}
@@ -13,7 +14,7 @@ use Rattle.c2_build_refusals.specs.declared.types.Embedded.{Embedded}
 use Rattle.c2_build_endings.specs.Endings.{build_ending}
 use Rattle.c2_build_plain.specs.Answers.{EmbedsFile, HasRange, Writes, file_of}
 use Rattle.c2_build_plain.specs.Building.{Built, IsEmbedded}
-use Rattle.c2_build_plain.specs.Meeting.{BuiltMeets, IsBuildMet, OneEmbedding}
+use Rattle.c2_build_plain.specs.Meeting.{BuiltMeets, IsBuildMet}
 use Rattle.c2_cmd_outcome.specs.Left.{state_of}
 use Rattle.c2_cmd_outcome.specs.Outcome.{IsOneOutcome}
 use Rattle.c2_cmd_outcome.specs.Reply.{IsFaultOf, IsReplyTo}
@@ -47,23 +48,29 @@ met_ok hash said media definition message (Ok x) h = h
 met_ok hash said media definition message (Err e) h = tt
 
 -- `embed` has one outcome
-pub one_embedding : OneEmbedding
-    → (hash : Alg → List ℕ → List ℕ) (said : Question → Verdict) (media definition message : List ℕ)
+pub one_embedding :
+    (hash : Alg → List ℕ → List ℕ) (said : Question → Verdict) (media definition message : List ℕ)
     → IsOneOutcome (IsEmbedOutcome hash said media definition message)
-one_embedding law hash said media definition message x y h k =
-    h.2 ∙ ap embed_outcome (law hash said media definition message h.0 k.0 h.1 k.1) ∙ sym k.2
+one_embedding hash said media definition message x y h k =
+    h.2
+    ∙ ap embed_outcome (a_build_comes_to_one_thing_embedding hash said media definition message h.0 k.0 h.1 k.1)
+    ∙ sym k.2
 
 -- what is replied and written, and what that meets
-pub file_made : {K : Type 0} (written : K → Option (List ℕ)) (spare : K → Option ℕ) (finished : K → Bool) → OneEmbedding
-    → (hash : Alg → List ℕ → List ℕ) (said : Question → Verdict) (media definition message : List ℕ) (old new : K) (r : Result Embedded BuildError)
-    (reply : Result Reply Fault) → EmbedsFile written spare finished hash said media definition message old new r
+pub file_made :
+    {K : Type 0} (written : K → Option (List ℕ)) (spare : K → Option ℕ) (finished : K → Bool)
+    (hash : Alg → List ℕ → List ℕ) (said : Question → Verdict) (media definition message : List ℕ) (old new : K)
+    (r : Result Embedded BuildError) (reply : Result Reply Fault)
+    → EmbedsFile written spare finished hash said media definition message old new r
     → EndsOut finished old new r
     → IfOk reply (IsReplyTo (build_says embedded_outcome r)) → IfErr reply (IsFaultOf (build_says embedded_outcome r))
     → BuildsFile hash said media definition message (state_of written finished old) (state_of written finished new) reply
-file_made {K} written spare finished law hash said media definition message old new r reply h ends reports fails = record {
+file_made {K} written spare finished hash said media definition message old new r reply h ends reports fails = record {
   made = makes_reply written finished (WritesNew file_bytes Is) (IsEmbedOutcome hash said media definition message) old new (build_ending r) (build_says embedded_outcome r) reply
       (build_fits embedded_outcome r (λ x. refl)) wrote (build_ends finished old new r ends)
-      (build_outcome file_bytes file_report Is embedded_outcome r (λ x y. law hash said media definition message x y) (range_comes Is r h.answered)) reports fails;
+      (build_outcome file_bytes file_report Is embedded_outcome r
+      (λ x y. a_build_comes_to_one_thing_embedding hash said media definition message x y) (range_comes Is r h.answered))
+      reports fails;
   meets =
       build_met written finished old new embedded_outcome r reply ends reports
       (met_ok hash said media definition message r h.meets);

@@ -2,9 +2,6 @@
 ghost use Rattle.c2_cmd_building.specs.Laws.{EachBuildingOutcome, EachBuildingQuestions};
 ghost use Rattle.c2_cmd_building.specs.Laws.{OneBuildingOutcome, OneBuildingQuestions};
 
-use c2_build_plain::{each_build_asks_a_list, each_build_comes_to_something};
-use c2_sample::each_sample_comes_to_something;
-
 /// Each command that builds comes to one outcome at most, and asks one list of questions at most.
 pub fn one_building_outcome()
     ensures outcome { OneBuildingOutcome }
@@ -15,8 +12,4 @@ pub fn one_building_outcome()
 pub fn each_building_outcome()
     ensures outcome { EachBuildingOutcome }
     ensures questions { EachBuildingQuestions }
-{
-    each_build_comes_to_something();
-    each_build_asks_a_list();
-    each_sample_comes_to_something();
-}
+{}

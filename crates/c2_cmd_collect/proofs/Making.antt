@@ -1,4 +1,6 @@
 -- What `embed-collect` replies and writes, by the call below it.
+use Rattle.c2_opening.proofs.TheLaws.{one_opening_file}
+use Rattle.c2_collect_spec.proofs.TheLaws.{a_collected_build_comes_to_one_thing_made}
 use Rattle.std.proofs.Common.{◌≡◌, refl, ℕ, Bool, List, Option}
 use Rattle.std.specs.Prelude.{IfErr, IfOk, OnOk, Ok, Err}
 use Rattle.std.specs.declared.result.Result.{Result}
@@ -38,14 +40,15 @@ met_ok hash said media definition message other (Ok x) h = h
 met_ok hash said media definition message other (Err e) h = tt
 
 -- what is replied and written, and what that meets
-pub collect_made : {K : Type 0} (written : K → Option (List ℕ)) (spare : K → Option ℕ) (finished : K → Bool) (hash : Alg → List ℕ → List ℕ) (said : Question → Verdict) (media definition message other : List ℕ) (old new : K)
+pub collect_made :
+    {K : Type 0} (written : K → Option (List ℕ)) (spare : K → Option ℕ) (finished : K → Bool)
+    (hash : Alg → List ℕ → List ℕ) (said : Question → Verdict) (media definition message other : List ℕ) (old new : K)
     (r : Result Embedded BuildError) (reply : Result Reply Fault)
-    → ((a b : Result NewFile CollectRefusal) → IsCollectMade hash said media definition message other a → IsCollectMade hash said media definition message other b → a ≡ b)
     → EmbedsCollected written spare finished hash said media definition message other old new r
     → EndsOut finished old new r
     → IfOk reply (IsReplyTo (build_says embedded_outcome r)) → IfErr reply (IsFaultOf (build_says embedded_outcome r))
     → BuildsCollected hash said media definition message other (state_of written finished old) (state_of written finished new) reply
-collect_made {K} written spare finished hash said media definition message other old new r reply one h ends reports fails = record {
+collect_made {K} written spare finished hash said media definition message other old new r reply h ends reports fails = record {
   made = makes_reply written finished (WritesNew file_bytes (ComesWith error_of Is)) (IsEmbedCollectOutcome hash said media definition message other) old new (build_ending r) (build_says embedded_outcome r) reply
       (build_fits embedded_outcome r (λ x. refl)) wrote (build_ends finished old new r ends)
       (collect_outcome Is r one h.answered) reports fails;
@@ -56,6 +59,12 @@ collect_made {K} written spare finished hash said media definition message other
   where
     Is : Result NewFile CollectRefusal → Type 0
     Is = IsCollectMade hash said media definition message other
+
+    one : (a b : Result NewFile CollectRefusal) → IsCollectMade hash said media definition message other a
+        → IsCollectMade hash said media definition message other b → a ≡ b
+    one a b p q =
+        a_collected_build_comes_to_one_thing_made hash said media definition message other a b (one_opening_file media)
+        (one_opening_file other) p q
 
     wrote : HasWritten written finished (WritesNew file_bytes (ComesWith error_of Is)) old new (build_ending r)
     wrote = written_as written finished (Writes Is) (WritesNew file_bytes (ComesWith error_of Is)) old new (build_ending r)

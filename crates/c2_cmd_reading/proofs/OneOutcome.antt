@@ -4,69 +4,26 @@ use Rattle.c2_read_manifests.proofs.TheLaws.{one_list_of_claims, one_reading_man
 use Rattle.c2_opening.proofs.TheLaws.{one_opening_file}
 use Rattle.c2_validate.proofs.TheLaws.{one_check_answer, one_external_check_answer}
 use Rattle.c2_compare_spec.proofs.TheLaws.{one_comparison_answer}
-use Rattle.std.proofs.Common.{◌≡◌, sym, ◌∙◌, ap, ℕ, List, Option}
+use Rattle.std.proofs.Common.{◌≡◌, sym, ◌∙◌, ap, ℕ, List}
 use Rattle.c2_base.specs.declared.values.Question.{Question}
-use Rattle.c2_spec.specs.declared.claim.Claim.{Claim}
 use Rattle.c2_spec.specs.declared.digest.Alg.{Alg}
-use Rattle.c2_spec.specs.declared.jumbf.JumbfError.{JumbfError}
 use Rattle.c2_spec.specs.declared.panel.Verdict.{Verdict}
-use Rattle.c2_spec.specs.C2pa.Manifest.{Manifest, manifests_of}
+use Rattle.c2_spec.specs.C2pa.Manifest.{manifests_of}
 use Rattle.c2_spec.specs.Container.{IsLocated}
-use Rattle.c2_spec.specs.Jumbf.Faults.{JumbfFault}
-use Rattle.c2_spec.specs.Jumbf.Tree.{Tree, SpellsTree}
-use Rattle.c2_spec.specs.Located.{Opening, Located, refused, absent, here}
+use Rattle.c2_spec.specs.Jumbf.Tree.{Tree}
+use Rattle.c2_spec.specs.Located.{Opening, refused, absent, here}
 use Rattle.c2_rules.specs.Claims.{HaveClaims}
 use Rattle.c2_rules.specs.Opened.{Opens, IsBoxTree, IsBoxed, IsOpened}
-use Rattle.c2_rules.specs.Readings.{Reading, AreReadings}
+use Rattle.c2_rules.specs.Readings.{AreReadings}
 use Rattle.c2_rules.specs.Validated.{IsAnswer}
-use Rattle.c2_rules.specs.declared.answer.Answer.{Answer as Checked}
-use Rattle.c2_compare_spec.specs.Comparison.{IsComparison}
 use Rattle.c2_compare_spec.specs.declared.compared.Compared.{Compared}
 use Rattle.c2_cmd_outcome.specs.Outcome.{answered, IsOneOutcome, Outcome, Reports}
 use Rattle.c2_cmd_reading.specs.Outcomes.{IsCompareOutcome, IsDigested, IsListOutcome, IsListing, IsMediaOutcome, IsQuestioned, IsShown, compare_outcome, external_outcome, questioned, shown}
 use Rattle.c2_validate.specs.External.{IsExternalAnswer}
-use Rattle.c2_validate.specs.declared.external.External.{External}
 use Rattle.c2_cmd_reading.specs.Laws.{OneReadingOutcome}
 use Rattle.c2_lemmas.proofs.Numbers.{one_after}
 use Rattle.c2_rules.proofs.OneAnswer.{one_opens}
 use Rattle.c2_rules.proofs.OneBoxTree.{one_box_tree}
-use Rattle.c2_spec.proofs.JumbfNoFault.{no_fault}
-use Rattle.c2_spec.proofs.JumbfOneFault.{first_once}
-use Rattle.c2_spec.proofs.JumbfOneTree.{spells_once}
-
--- what the laws of the crates below say
-pub record Laws : Type 0 where
-  pub located : (file : List ℕ) (v w : Located) → IsLocated file v → IsLocated file w → v ≡ w
-  pub apart : (bytes : List ℕ) (t : Tree) (e : JumbfError) → SpellsTree bytes t → JumbfFault bytes e → ⊥
-  pub tree : (bytes : List ℕ) (t u : Tree) → SpellsTree bytes t → SpellsTree bytes u → t ≡ u
-  pub fault : (bytes : List ℕ) (e f : JumbfError) → JumbfFault bytes e → JumbfFault bytes f → e ≡ f
-  pub claims : (ms : List Manifest) (cs ds : List (Option Claim)) → HaveClaims ms cs → HaveClaims ms ds → cs ≡ ds
-  pub readings : (ms : List Manifest) (rs ss : List Reading) → AreReadings ms rs → AreReadings ms ss → rs ≡ ss
-  pub opened : (file : List ℕ) (a b : Opening Tree) → IsOpened file a → IsOpened file b → a ≡ b
-  pub answer : (hash : Alg → List ℕ → List ℕ) (said : Question → Verdict) (file : List ℕ) (a b : Checked)
-      → IsAnswer hash said file a → IsAnswer hash said file b → a ≡ b
-  pub compared :
-      (hash : Alg → List ℕ → List ℕ) (said : Question → Verdict) (first second : List ℕ) (a b : Compared) (t u : List ℕ)
-      → IsComparison hash said first second a t → IsComparison hash said first second b u → (a ≡ b) × (t ≡ u)
-  pub external : (hash : Alg → List ℕ → List ℕ) (said : Question → Verdict) (file store : List ℕ) (a b : External)
-      → IsExternalAnswer hash said file store a → IsExternalAnswer hash said file store b → a ≡ b
-
--- they hold
-pub these_laws : Laws
-these_laws =
-    record {
-      located = each_media_file_is_located_once;
-      apart = no_fault;
-      tree = spells_once;
-      fault = first_once;
-      claims = one_list_of_claims;
-      readings = one_reading_manifests;
-      opened = one_opening_file;
-      answer = one_check_answer;
-      compared =
-          λ hash said first second. one_comparison_answer hash said first second (one_opening_file first) (one_opening_file second);
-      external = one_external_check_answer;
-    }
 
 -- ---- openings
 
@@ -108,10 +65,11 @@ one_media P once file x y h k =
 
 -- two files are compared to one outcome at most
 pub one_compared : (hash : Alg → List ℕ → List ℕ) (said : Question → Verdict) (first second : List ℕ)
-    → ((a b : Compared) (t u : List ℕ) → IsComparison hash said first second a t → IsComparison hash said first second b u → (a ≡ b) × (t ≡ u))
     → IsOneOutcome (IsCompareOutcome hash said first second)
-one_compared hash said first second once x y h k =
-    let one = once h.0 k.0 h.1 k.1 h.2 k.2 in
+one_compared hash said first second x y h k =
+    let one =
+    one_comparison_answer hash said first second (one_opening_file first) (one_opening_file second) h.0 k.0 h.1 k.1
+    h.2 k.2 in
     h.3 ∙ ap (λ (what : Compared). compare_outcome what h.1) one.0 ∙ ap (compare_outcome k.0) one.1 ∙ sym k.3
 
 -- a list of boxes has one outcome at most, by the file
@@ -130,8 +88,7 @@ one_outcome = record {
   questions = λ said file x y h k. one_media (IsQuestioned said) (one_questioned said) file x y h k;
   validate =
       λ hash said file x y h k. one_after (IsAnswer hash said file) (λ found e. e ≡ answered found) (one_check_answer hash said file) (λ found a b p q. p ∙ sym q) x y h k;
-  compare =
-      λ hash said first second x y h k. one_compared hash said first second (these_laws.compared hash said first second) x y h k;
+  compare = one_compared;
   external =
       λ hash said file store x y h k. one_after (IsExternalAnswer hash said file store) (λ a e. e ≡ external_outcome a) (one_external_check_answer hash said file store) (λ a c d p q. p ∙ sym q) x y h k;
 }

@@ -1,56 +1,31 @@
 -- What judges are asked behind stages is one list where each stage comes to one thing, and a list where each comes to something.
-use Rattle.c2_collect_spec.proofs.Contents.{content_one}
-use Rattle.c2_read_manifests.proofs.TheLaws.{one_reading_manifests, one_reading_store}
+use Rattle.c2_read_manifests.proofs.TheLaws.{one_reading_manifests}
 use Rattle.c2_definition.proofs.TheLaws.{each_definition_is_read_one_way_one}
-use Rattle.c2_new_signature.proofs.TheLaws.{a_message_fills_its_reserve_or_needs_more, each_message_is_accepted_or_refused_for_one_test, one_message_read}
-use Rattle.c2_new_file_spec.proofs.FileLaws.{a_place_is_one, what_is_left_is_one}
+use Rattle.c2_new_signature.proofs.TheLaws.{one_message_read}
+use Rattle.c2_lemmas.specs.Stages.{AsksThen}
+use Rattle.c2_lemmas.proofs.Asks.{IsOneList, SomeList, one_asked, some_asked}
 use Rattle.c2_lemmas.proofs.Stages.{one_stage}
 use Rattle.std.proofs.Common.{◌≡◌, ℕ, List, [], ◌++◌, refl, sym, ap, ◌∙◌, subst}
-use Rattle.std.specs.Prelude.{Result, Ok, Err}
+use Rattle.std.specs.Prelude.{Ok}
 use Rattle.c2_base.specs.declared.values.Question.{Question}
-use Rattle.c2_spec.specs.C2pa.Manifest.{Manifest, manifests_of}
+use Rattle.c2_spec.specs.C2pa.Manifest.{manifests_of}
 use Rattle.c2_spec.specs.Jumbf.Tree.{Tree}
 use Rattle.c2_spec.specs.Located.{Opening, absent, here, refused}
 use Rattle.c2_spec.specs.declared.digest.Alg.{Alg}
 use Rattle.c2_spec.specs.declared.panel.Verdict.{Verdict}
 use Rattle.c2_rules.specs.CheckList.{check_asks}
 use Rattle.c2_rules.specs.Opened.{IsOpened}
-use Rattle.c2_rules.specs.Readings.{AreReadings, Reading}
+use Rattle.c2_rules.specs.Readings.{Reading}
 use Rattle.c2_rules.specs.Validated.{CheckAsks, OpenedAsks}
 use Rattle.c2_definition.specs.DefinitionFile.{IsDefinition}
 use Rattle.c2_collect_spec.specs.Asked.{OneCollectAsks, OneCollectPlanAsks, SomeCollectAsks, SomeCollectPlanAsks}
-use Rattle.c2_collect_spec.specs.Order.{CollectRefusal}
-use Rattle.c2_collect_spec.specs.Outcomes.{After, AskedBehind, AsksThen, HasCheck, IsDefinitionStage, IsMediaStage, IsMessageStage, IsOpenedOnce, IsParentStage}
+use Rattle.c2_collect_spec.specs.Outcomes.{HasCheck, IsDefinitionStage, IsMediaStage, IsMessageStage, IsOpenedOnce, IsParentStage}
 use Rattle.c2_new_signature.specs.Message.{IsMessageRead}
-use Rattle.c2_collect_spec.specs.Outcomes.{PairAsks, SomeCollectMade, SomeCollectPlan, Then, definition_stage, media_stage, message_stage}
-use Rattle.c2_collect_spec.proofs.OneOutcome.{OneLaws, one_parent}
-use Rattle.c2_collect_spec.proofs.SomeOutcome.{answer_over, opened_as}
-use Rattle.c2_collect_spec.proofs.Stages.{IsOne}
-use Rattle.c2_cbor_spec.proofs.PlainBack.{one_item}
+use Rattle.c2_collect_spec.specs.Outcomes.{PairAsks, definition_stage, media_stage, message_stage}
+use Rattle.c2_collect_spec.proofs.OneOutcome.{one_parent}
+use Rattle.c2_collect_spec.proofs.SomeOutcome.{answer_over, opened_as, some_file, some_plan}
 
 -- ---- one list
-
--- there is one list of this
-abbrev pub IsOneList : (List Question → Type 0) → Type 0
-IsOneList Asks = (ps qs : List Question) → Asks ps → Asks qs → ps ≡ qs
-
--- what is asked behind one thing is one list
-one_behind : {A : Type 0} (Asks : A → List Question → Type 0) → ((a : A) → IsOneList (Asks a))
-    → (first : Result A CollectRefusal) → IsOneList (AskedBehind first Asks)
-one_behind Asks one (Ok a) ps qs h k = one a ps qs h k
-one_behind Asks one (Err e) ps qs h k = h ∙ sym k
-
--- what is asked behind a stage that has one outcome is one list
-one_asked : {A : Type 0} (First : Result A CollectRefusal → Type 0) (Asks : A → List Question → Type 0) → IsOne First
-    → ((a : A) → IsOneList (Asks a)) → IsOneList (AsksThen First Asks)
-one_asked {A} First Asks first one ps qs h k =
-    one_behind Asks one k.first ps qs
-    (subst (λ (r : Result A CollectRefusal). AskedBehind r Asks ps) (first h.first k.first h.is_first k.is_first) h.asks)
-    k.asks
-
--- manifests are read in one way
-abbrev pub OneManifests : Type 0
-OneManifests = (ms : List Manifest) (rs ss : List Reading) → AreReadings ms rs → AreReadings ms ss → rs ≡ ss
 
 -- what is asked over what a file is opened as is one list
 one_opened : (asks : List Reading → List Question) (what : Opening Tree) → IsOneList (OpenedAsks asks what)
@@ -66,29 +41,6 @@ one_check hash said file once ps qs h k =
     one_opened (check_asks hash said) k.0 ps qs
     (subst (λ (w : Opening Tree). OpenedAsks (check_asks hash said) w ps) (once h.0 k.0 h.1 k.1) h.2) k.2
 
--- what laws of this crate and of others say
-pub record AskLaws : Type 0 where
-  pub one : OneLaws
-  pub manifests : OneManifests
-
--- they hold
-pub ask_laws : AskLaws
-ask_laws =
-    record {
-      manifests = one_reading_manifests;
-      one =
-          record {
-            definition = each_definition_is_read_one_way_one;
-            item = one_item;
-            refused = each_message_is_accepted_or_refused_for_one_test;
-            fills = a_message_fills_its_reserve_or_needs_more;
-            reading = one_reading_store;
-            left = what_is_left_is_one;
-            place = a_place_is_one;
-            content = content_one;
-          };
-    }
-
 -- what is asked of both files is one list
 one_pair : (hash : Alg → List ℕ → List ℕ) (said : Question → Verdict) (media other : List ℕ) (what : Opening Tree)
     → IsOpenedOnce other
@@ -98,48 +50,31 @@ one_pair hash said media other what once ps qs h k =
     one_opened (check_asks hash said) what h.of_media k.of_media h.media_asks k.media_asks in
     let theirs : h.of_other ≡ k.of_other =
     one_asked (IsParentStage hash said media what) (λ m. CheckAsks hash said other)
-    (one_parent ask_laws.one hash said media what)
-    (λ m. one_check hash said other once) h.of_other k.of_other h.other_asks k.other_asks in
+    (one_parent hash said media what)
+    (λ m is. one_check hash said other once) h.of_other k.of_other h.other_asks k.other_asks in
     h.are ∙ ap (λ (xs : List Question). xs ++ h.of_other) own ∙ ap (λ (xs : List Question). k.of_media ++ xs) theirs
     ∙ sym k.are
 
 -- what a plan asks is one list
 pub one_plan_asks : OneCollectPlanAsks
 one_plan_asks hash said media definition other ps qs once again =
-    one_asked (IsMediaStage media) _ (one_stage media_stage (IsOpened media) once) (λ what.
+    one_asked (IsMediaStage media) _ (one_stage media_stage (IsOpened media) once) (λ what is.
     one_asked (IsDefinitionStage definition) _
-    (one_stage definition_stage (IsDefinition definition) (each_definition_is_read_one_way_one definition)) (λ d.
+    (one_stage definition_stage (IsDefinition definition) (each_definition_is_read_one_way_one definition)) (λ d read.
     one_pair hash said media other what again)) ps qs
 
 -- what a build asks is one list
 pub one_asks : OneCollectAsks
 one_asks hash said media definition message other ps qs once again =
-    one_asked (IsMediaStage media) _ (one_stage media_stage (IsOpened media) once) (λ what.
+    one_asked (IsMediaStage media) _ (one_stage media_stage (IsOpened media) once) (λ what is.
     one_asked (IsDefinitionStage definition) _
-    (one_stage definition_stage (IsDefinition definition) (each_definition_is_read_one_way_one definition)) (λ d.
+    (one_stage definition_stage (IsDefinition definition) (each_definition_is_read_one_way_one definition)) (λ d read.
     one_asked (IsMessageStage d.protected message) _
     (one_stage message_stage (IsMessageRead d.protected message)
-    (one_message_read each_message_is_accepted_or_refused_for_one_test d.protected message)) (λ m.
+    (one_message_read d.protected message)) (λ m told.
     one_pair hash said media other what again))) ps qs
 
 -- ---- a list
-
--- there is a list of this
-abbrev pub SomeList : (List Question → Type 0) → Type 0
-SomeList Asks = (qs : List Question) × Asks qs
-
--- where two stages come to something, a list is asked behind the first if one is behind each thing that it comes to
-some_asked :
-    {A B : Type 0} (First : Result A CollectRefusal → Type 0) (Next : A → Result B CollectRefusal → Type 0)
-    (Asks : A → List Question → Type 0) (r : Result B CollectRefusal)
-    → Then First Next r
-    → ((a : A) (s : Result B CollectRefusal) → First (Ok a) → Next a s → SomeList (Asks a))
-    → SomeList (AsksThen First Asks)
-some_asked {A} {B} First Next Asks r h over = by h.first h.is_first h.next
-  where
-    by : (first : Result A CollectRefusal) → First first → After Next first r → SomeList (AsksThen First Asks)
-    by (Ok a) is next = let some = over a r is next in (some.0, record { first = Ok a; is_first = is; asks = some.1 })
-    by (Err e) is next = ([], record { first = Err e; is_first = is; asks = refl })
 
 -- a list is asked over what a file is opened as
 some_opened : (hash : Alg → List ℕ → List ℕ) (said : Question → Verdict) (file : List ℕ) (what : Opening Tree)
@@ -169,18 +104,18 @@ some_pair hash said media other what own theirs is asked =
     )
 
 -- a plan asks a list
-pub some_plan_asks : SomeCollectPlan → SomeCollectPlanAsks
-some_plan_asks plan hash said media definition other own theirs =
-    let r = plan hash said media definition other own theirs in
+pub some_plan_asks : SomeCollectPlanAsks
+some_plan_asks hash said media definition other own theirs =
+    let r = some_plan hash said media definition other own theirs in
     some_asked (IsMediaStage media) _ _ r.0 r.1 (λ what x is_media h.
     some_asked (IsDefinitionStage definition) _ _ x h (λ d y is_d k.
     some_pair hash said media other what own theirs is_media
     (some_asked (IsParentStage hash said media what) _ _ k.first k.is_first (λ m z is_m n. some_check hash said other theirs))))
 
 -- a build asks a list
-pub some_asks : SomeCollectMade → SomeCollectAsks
-some_asks made hash said media definition message other own theirs are =
-    let r = made hash said media definition message other own theirs are in
+pub some_asks : SomeCollectAsks
+some_asks hash said media definition message other own theirs are =
+    let r = some_file hash said media definition message other own theirs are in
     some_asked (IsMediaStage media) _ _ r.0 r.1 (λ what x is_media h.
     some_asked (IsDefinitionStage definition) _ _ x h (λ d y is_d k.
     some_asked (IsMessageStage d.protected message) _ _ y k (λ parts z is_parts n.

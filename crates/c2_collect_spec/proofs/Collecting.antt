@@ -1,6 +1,8 @@
 -- The new store over the joined boxes of two stores meets the rules; what it asks, and what is reached in it.
 use Rattle.c2_read_manifests.proofs.TheLaws.{one_reading_manifests}
 use Rattle.c2_chain_spec.proofs.ChainLaws.{chains_join}
+use Rattle.c2_new_content_spec.proofs.ContentLaws.{a_gathered_store_meets_the_rules_meets, a_gathered_store_meets_the_rules_reaches}
+use Rattle.c2_new_file_spec.proofs.ParentLaws.{a_redacted_store_is_read_less}
 use Rattle.std.proofs.Common.{◌≡◌, inl, inr, ⊎_elim, ℕ, zero, suc, ◌+◌, ◌-◌, ◌<◌, ◌≤◌, Bool, true, false, cond, List, [], ◌∷◌, length, Option, Some, None, Contains, slice_get, refl, sym, ap, ◌∙◌, subst, arith, length-append}
 use Rattle.std.specs.Prelude.{not, option_to_list}
 use Rattle.std.specs.List.{AllByRecursion, AllZip}
@@ -26,9 +28,9 @@ use Rattle.c2_definition.specs.declared.types.NewAssertion.{NewAssertion}
 use Rattle.c2_new_file_spec.specs.Manifests.{supers_in}
 use Rattle.c2_new_file_spec.specs.Store.{Content, NamedManifest, NewIngredient, new_alg, new_store}
 use Rattle.c2_new_file_spec.specs.Written.{AreIngredients, CanBeWritten}
-use Rattle.c2_new_file_spec.specs.Less.{IsReadLess, RedactedStoreIsRead}
+use Rattle.c2_new_file_spec.specs.Less.{IsReadLess}
 use Rattle.c2_new_file_spec.specs.Redacting.{redacted_boxes}
-use Rattle.c2_new_content_spec.specs.Gathered.{GatheredStoreMeets, GatheredStoreReaches, IsOverRoots, ReachesRoots}
+use Rattle.c2_new_content_spec.specs.Gathered.{IsOverRoots, ReachesRoots}
 use Rattle.c2_new_content_spec.specs.Taken.{IsRoot, IsTakenFrom, question_from, questions_from}
 use Rattle.c2_collect_spec.specs.Collected.{CanJoin, CollectedStoreMeets, CollectedStoreReaches, CollectsFrom, IsCollected, IsNamedAt, IsOfEither, IsStored, JoinedIsReached, JoinedReaches}
 use Rattle.c2_collect_spec.specs.Collected.{QuestionsAreApproved, QuestionsAreOfEither, ReachesCollected, WasReached, collected_boxes, collected_ingredients, collected_readings, collected_roots}
@@ -49,18 +51,19 @@ record IsMade (hash : Alg → List ℕ → List ℕ) (old_rs other_rs : List Rea
       left
 
 -- the new store is over the joined chain, with an ingredient for each of its roots
-made : RedactedStoreIsRead
-    → (hash : Alg → List ℕ → List ℕ) (d : Definition) (old other : Trees) (old_rs other_rs : List Reading) (c : Content)
+made :
+    (hash : Alg → List ℕ → List ℕ) (d : Definition) (old other : Trees) (old_rs other_rs : List Reading) (c : Content)
     (binding : NewAssertion) (message : List ℕ) (p : SignParts)
     → IsCollected hash d old other old_rs other_rs c → IsStored hash c binding message p
     → IsMade hash old_rs other_rs c binding message p
-made less hash d old other old_rs other_rs c binding message p is stored =
+made hash d old other old_rs other_rs c binding message p is stored =
     let js : List Reading = collected_readings old_rs other_rs in
     let roots : List ℕ = collected_roots old_rs other_rs in
     let boxes : Trees = collected_boxes old other other_rs in
     let from : CollectsFrom d old other old_rs other_rs c = is.content in
     let s : IsRootedStore hash boxes js roots = joined_store hash old other old_rs other_rs is.can.joins in
-    let k : IsReadLess d.redact boxes js = less d.redact boxes js s.legal s.stores s.reads in
+    let k : IsReadLess d.redact boxes js =
+    a_redacted_store_is_read_less d.redact boxes js s.legal s.stores s.reads in
     let taken : IsTakenFrom hash d (redacted_boxes d.redact boxes) roots js k.ss =
     taken_less hash d boxes js roots k s is.can.label is.few is.can.redactions in
     let zips : AllZip (λ (g : NewIngredient) root. IsRoot js k.ss g.of root) (collected_ingredients from.named) roots =
@@ -84,12 +87,12 @@ made less hash d old other old_rs other_rs c binding message p is stored =
     }
 
 -- the new store meets the rules
-pub collected_meets : RedactedStoreIsRead → GatheredStoreMeets → CollectedStoreMeets
-collected_meets less gathers hash d old other old_rs other_rs c binding message p is stored =
+pub collected_meets : CollectedStoreMeets
+collected_meets hash d old other old_rs other_rs c binding message p is stored =
     let m : IsMade hash old_rs other_rs c binding message p =
-    made less hash d old other old_rs other_rs c binding message p is stored in
-    gathers hash c binding message p (collected_roots old_rs other_rs) (collected_readings old_rs other_rs) m.left
-    m.over
+    made hash d old other old_rs other_rs c binding message p is stored in
+    a_gathered_store_meets_the_rules_meets hash c binding message p (collected_roots old_rs other_rs)
+    (collected_readings old_rs other_rs) m.left m.over
 
 -- ---- what is reached
 
@@ -196,13 +199,13 @@ older_reaches old_rs other_rs f g same k =
     }
 
 -- the new manifest, what was reached in the first store and all that is carried are reached in the new store
-pub collected_reaches : RedactedStoreIsRead → GatheredStoreReaches → CollectedStoreReaches
-collected_reaches less gathers hash d old other old_rs other_rs c binding message p all is stored reads =
+pub collected_reaches : CollectedStoreReaches
+collected_reaches hash d old other old_rs other_rs c binding message p all is stored reads =
     let js : List Reading = collected_readings old_rs other_rs in
     let roots : List ℕ = collected_roots old_rs other_rs in
     let m : IsMade hash old_rs other_rs c binding message p =
-    made less hash d old other old_rs other_rs c binding message p is stored in
-    let g = gathers hash c binding message p roots js m.left m.over in
+    made hash d old other old_rs other_rs c binding message p is stored in
+    let g = a_gathered_store_meets_the_rules_reaches hash c binding message p roots js m.left m.over in
     let r : ReachesRoots js roots g.0 = g.2 in
     let k : JoinedReaches old_rs other_rs (is_reached_from js roots) =
     joined_reaches hash old other old_rs other_rs is.can.joins in

@@ -1,4 +1,5 @@
 -- Something goes into a new store over two stores, and it is one; and the manifests at its roots are such as ingredients may name.
+use Rattle.c2_new_file_spec.proofs.ParentLaws.{a_redacted_store_is_read_less}
 use Rattle.std.proofs.Common.{◌≡◌, ◌≢◌, inl, inr, ℕ, zero, suc, ◌<◌, ◌≤◌, true, List, [], ◌∷◌, length, find, Option, Some, None, Contains, slice_get, refl, sym, ap, ◌∙◌, subst, arith, codes, lit≤, length-append}
 use Rattle.std.specs.Prelude.{filter_map, is_some, option_map, unwrap_or}
 use Rattle.std.specs.List.{AllByRecursion, AllZip, cons_option}
@@ -27,7 +28,7 @@ use Rattle.c2_new_file_spec.specs.Manifests.{is_signature_box, manifest_of, supe
 use Rattle.c2_new_file_spec.specs.Store.{NamedManifest, NewIngredient}
 use Rattle.c2_new_file_spec.specs.Written.{AreIngredients}
 use Rattle.c2_rules.proofs.Conditions.{Holds, all_each}
-use Rattle.c2_new_file_spec.specs.Less.{IsReadLess, RedactedStoreIsRead}
+use Rattle.c2_new_file_spec.specs.Less.{IsReadLess}
 use Rattle.c2_new_file_spec.specs.Redacting.{redacted_boxes}
 use Rattle.c2_new_file_spec.proofs.Places.{LessAt, less_at, less_label, less_len}
 use Rattle.c2_new_file_spec.proofs.Stores.{label_some, legal_at, read_label, read_len}
@@ -280,15 +281,15 @@ roots_named hash redacts boxes all rs (n ∷ ns) k rooted within in_all =
     (first.0 ∷ others.0, (first.1, others.1))
 
 -- something goes into a new store that collects
-pub some_collects : RedactedStoreIsRead → SomeContentCollects
-some_collects less hash d old other old_rs other_rs can =
+pub some_collects : SomeContentCollects
+some_collects hash d old other old_rs other_rs can =
     let js : List Reading = collected_readings old_rs other_rs in
     let roots : List ℕ = collected_roots old_rs other_rs in
     let boxes : Trees = collected_boxes old other other_rs in
     let s : IsRootedStore hash boxes js roots = joined_store hash old other old_rs other_rs can.joins in
     let ps =
-    roots_named hash d.redact boxes roots js roots (less d.redact boxes js s.legal s.stores s.reads) s.rooted
-    s.rooted.within
+    roots_named hash d.redact boxes roots js roots
+    (a_redacted_store_is_read_less d.redact boxes js s.legal s.stores s.reads) s.rooted s.rooted.within
     (λ c h. h) in (
       record { definition = d; carried = redacted_boxes d.redact boxes; ingredients = collected_ingredients ps.0 },
       record { definition = refl; carried = refl; named = ps.0; are = ps.1; ingredients = refl },

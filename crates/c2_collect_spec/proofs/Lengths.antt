@@ -1,4 +1,5 @@
 -- What is collected of two files has no more bytes than their stores, and each of its ingredients names a manifest of it.
+use Rattle.c2_new_lengths_spec.proofs.TheLaws.{the_length_of_a_new_store_fits}
 use Rattle.std.proofs.Common.{◌≡◌, ℕ, zero, suc, ◌+◌, ◌*◌, ◌-◌, ◌^◌, ◌<◌, ◌≤◌, Bool, true, false, cond, List, [], ◌∷◌, ◌++◌, length, Option, Some, slice_get, sym, ap, subst, arith, length-append}
 use Rattle.std.proofs.lemmas.Option.{same_Some}
 use Rattle.std.specs.Prelude.{Ok, unwrap_or}
@@ -25,7 +26,7 @@ use Rattle.c2_new_file_spec.specs.Manifests.{is_assertion_store, supers_in}
 use Rattle.c2_new_file_spec.specs.Store.{Content, NamedManifest, NewIngredient}
 use Rattle.c2_new_file_spec.specs.Written.{AreIngredients}
 use Rattle.c2_new_file_spec.specs.Redacting.{boxes_in, redacted_box, redacted_boxes, takes_out, thin_boxes, thin_store, without}
-use Rattle.c2_new_lengths_spec.specs.Lengths.{Fits, StoresFit}
+use Rattle.c2_new_lengths_spec.specs.Lengths.{Fits}
 use Rattle.c2_new_file_spec.specs.Places.{Place, in_boxes, in_segments, store_len}
 use Rattle.c2_collect_spec.specs.Collected.{IsNamedAt, collected_boxes, collected_ingredients}
 use Rattle.c2_collect_spec.specs.Lengths.{CollectedIsShort, CollectedStoresFit}
@@ -303,9 +304,10 @@ place_fits x (in_segments segments number) h = h.jpeg
 place_fits x (in_boxes roots) h = h.film
 
 -- 64 bits hold the length of a new store that collects
-pub collected_fits : StoresFit → CollectedStoresFit
-collected_fits law hash said media definition other d p c place defined is from =
+pub collected_fits : CollectedStoresFit
+collected_fits hash said media definition other d p c place defined is from =
     let own : IsDefinition definition (Ok c.definition) =
     subst (λ (e : Definition). IsDefinition definition (Ok e)) (sym from.definition) defined in
     subst (λ (e : Definition). store_len place c e.reserve < 2 ^ 64 - 1) from.definition
-    (place_fits c place (law definition c own (collected_short hash said media other d p c is from)))
+    (place_fits c place
+    (the_length_of_a_new_store_fits definition c own (collected_short hash said media other d p c is from)))

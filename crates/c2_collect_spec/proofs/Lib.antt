@@ -1,5 +1,4 @@
 pub mod Accepted
-pub mod Approved
 pub mod Asked
 pub mod Clashes
 pub mod Collecting
@@ -13,7 +12,6 @@ pub mod OneOutcome
 pub mod Order
 mod Rows
 pub mod SomeOutcome
-pub mod Stages
 pub mod Stores
 pub mod TheLaws
 pub mod Unrefused

@@ -3,10 +3,10 @@ use Rattle.c2_collect_spec.proofs.Collecting.{all_approved}
 use Rattle.c2_collect_spec.proofs.Whole.{each_meets}
 use Rattle.c2_definition.proofs.TheLaws.{definitions_are_well_formed}
 use Rattle.c2_new_signature.proofs.TheLaws.{accepted_messages_can_be_padded}
-use Rattle.c2_lemmas.proofs.Stages.{stage_value}
+use Rattle.c2_lemmas.proofs.Stages.{passed, stage_value, then_next, unless_passed, unless_passes}
+use Rattle.c2_lemmas.proofs.Lists.{both_none}
 use Rattle.c2_new_file_spec.proofs.FileLaws.{a_place_is_one}
 use Rattle.c2_new_content_spec.proofs.OverLaws.{a_valid_store_is_approved}
-use Rattle.c2_chain_spec.proofs.ChainLaws.{a_store_is_rooted_at_its_last_manifest}
 use Rattle.c2_new_content_spec.proofs.SplitLaws.{a_file_at_a_split_keeps_its_bytes_left}
 use Rattle.std.proofs.Common.{◌≡◌, ◌⊎◌, inl, inr, ⊎_elim, ℕ, ◌+◌, ◌<◌, ◌≤◌, List, [], ◌∷◌, ◌++◌, length, Option, None, Contains, refl, sym, ap, ◌∙◌, subst, arith}
 use Rattle.std.specs.Prelude.{Result, Ok}
@@ -20,7 +20,7 @@ use Rattle.c2_spec.specs.Located.{Opening, absent, here, refused}
 use Rattle.c2_spec.specs.PutIn.{taken_out}
 use Rattle.c2_spec.specs.declared.digest.Alg.{Alg}
 use Rattle.c2_spec.specs.declared.panel.Verdict.{Verdict}
-use Rattle.c2_rules.specs.CheckList.{StoreReading, answer_of, check_list, questions, summary_of}
+use Rattle.c2_rules.specs.CheckList.{AreApproved, StoreReading, answer_of, check_list, questions, summary_of}
 use Rattle.c2_rules.specs.Opened.{IsOpened}
 use Rattle.c2_rules.specs.Readings.{Reading}
 use Rattle.c2_rules.specs.Tests.{first_failing}
@@ -28,13 +28,12 @@ use Rattle.c2_rules.specs.Validated.{IsAnswer}
 use Rattle.c2_rules.specs.declared.answer.Answer.TheVariants as answers
 use Rattle.c2_rules.specs.declared.answer.Summary.{Summary}
 use Rattle.c2_rules.proofs.FirstLemmas.{all_hold, none_fails}
-use Rattle.c2_new_content_spec.specs.Over.{ValidIsApproved}
 use Rattle.c2_definition.specs.declared.types.Definition.{Definition}
 use Rattle.c2_new_signature.specs.Signed.{IsSigned}
 use Rattle.c2_new_file_spec.specs.Store.{Content, range_at}
 use Rattle.c2_new_file_spec.specs.Places.{IsFreePlace, IsPlace, Place, place_start, range_len, store_len}
-use Rattle.c2_new_content_spec.specs.Kept.{KeepsBytes, KeepsOutside, LeftKeeps}
-use Rattle.c2_collect_spec.specs.Collected.{AreApproved, CollectsFrom, IsOfEither}
+use Rattle.c2_new_content_spec.specs.Kept.{KeepsBytes, KeepsOutside}
+use Rattle.c2_collect_spec.specs.Collected.{CollectsFrom, IsOfEither}
 use Rattle.c2_collect_spec.specs.Files.{collected_signed}
 use Rattle.c2_collect_spec.specs.Made.{HasTextsIn, IsAskedBy, MadeCollectedMeets, embedded_range}
 use Rattle.c2_collect_spec.specs.Order.{CanCollectPair, CollectRefusal, FilePair, IsCollectedFile, IsMediaFile, IsOtherFile, IsValidAnswer, MediaFile, OtherFile}
@@ -44,9 +43,8 @@ use Rattle.c2_new_signature.specs.Message.{IsMessageRead}
 use Rattle.c2_collect_spec.specs.Outcomes.{IsPairStage, IsPlannedOn, IsPlannedOver, IsPutIn, NewFile, ground_refusals, ground_signed, new_file}
 use Rattle.c2_collect_spec.specs.Stores.{IsAcceptedFile}
 use Rattle.c2_collect_spec.specs.Whole.{MeetsCollected, pair_questions}
-use Rattle.c2_collect_spec.proofs.Order.{both_none, file_fits, none_failing, pair_collects}
+use Rattle.c2_collect_spec.proofs.Order.{file_fits, none_failing, pair_collects}
 use Rattle.c2_collect_spec.proofs.SomeOutcome.{IsPairPassed, defined_of, free_place, opened_as, pair_passed}
-use Rattle.c2_collect_spec.proofs.Stages.{passed, then_next, unless_passed, unless_passes}
 
 -- ---- what is known
 
@@ -141,34 +139,35 @@ planned_of hash said media definition message other b k =
 -- ---- the judges
 
 -- judges approve the questions of the media's store, of which no rule fails
-media_approved : ValidIsApproved
-    → (hash : Alg → List ℕ → List ℕ) (said : Question → Verdict) (file : List ℕ) (what : Opening Tree) (m : MediaFile)
+media_approved :
+    (hash : Alg → List ℕ → List ℕ) (said : Question → Verdict) (file : List ℕ) (what : Opening Tree) (m : MediaFile)
     → IsMediaFile hash said file what m
     → m.failing ≡ None → AreApproved said (questions m.readings)
-media_approved law hash said file (refused reason number) m is none = absurd is
-media_approved law hash said file absent m is none =
+media_approved hash said file (refused reason number) m is none = absurd is
+media_approved hash said file absent m is none =
     subst (λ (x : MediaFile). AreApproved said (questions x.readings)) (sym is) tt
-media_approved law hash said file (here start len t) m is none =
+media_approved hash said file (here start len t) m is none =
     subst (λ (rs : List Reading). AreApproved said (questions rs)) (sym is.readings)
-    (law hash said is.reading (all_hold (check_list hash said is.reading) (sym is.failing ∙ none)))
+    (a_valid_store_is_approved hash said is.reading
+    (all_hold (check_list hash said is.reading) (sym is.failing ∙ none)))
 
 -- judges approve the questions of the other file, which is valid
-other_approved : ValidIsApproved
-    → (hash : Alg → List ℕ → List ℕ) (said : Question → Verdict) (file : List ℕ) (what : Opening Tree) (o : OtherFile)
+other_approved :
+    (hash : Alg → List ℕ → List ℕ) (said : Question → Verdict) (file : List ℕ) (what : Opening Tree) (o : OtherFile)
     → IsOtherFile hash said file what o
     → IsValidAnswer o.answer → AreApproved said (questions o.readings)
-other_approved law hash said file (refused reason number) o is valid =
+other_approved hash said file (refused reason number) o is valid =
     let bad : answers.Refused reason number ≡ answers.Valid valid.0 =
     sym (ap (λ (x : OtherFile). x.answer) is) ∙ valid.1 in absurd (cc (bad))
-other_approved law hash said file absent o is valid =
+other_approved hash said file absent o is valid =
     let bad : answers.NoStore ≡ answers.Valid valid.0 =
     sym (ap (λ (x : OtherFile). x.answer) is) ∙ valid.1 in absurd (cc (bad))
-other_approved law hash said file (here start len t) o is valid =
+other_approved hash said file (here start len t) o is valid =
     let none =
     none_failing (summary_of (length file) start len is.reading) valid.0
     (first_failing (check_list hash said is.reading)) (sym is.answer ∙ valid.1) in
     subst (λ (rs : List Reading). AreApproved said (questions rs)) (sym is.readings)
-    (law hash said is.reading (all_hold (check_list hash said is.reading) none))
+    (a_valid_store_is_approved hash said is.reading (all_hold (check_list hash said is.reading) none))
 
 -- ---- the questions
 
@@ -225,7 +224,7 @@ built_of hash said media definition message other b texts k p =
     let defined = defined_of definition d k.is_d in
     let taken = stage_value bad_signature (IsMessageRead d.protected message) k.parts k.is_parts in
     let collects : CanCollectPair hash d k.pair =
-    pair_collects a_store_is_rooted_at_its_last_manifest hash said d media other k.pair p.is_pair p.none in
+    pair_collects hash said d media other k.pair p.is_pair p.none in
     let free = free_place hash said media k.what k.pair.media (opened_as media k.what k.is_media) p.is_media in
     let fit = file_fits base x d.reserve (length (pair_readings k.pair) + 1) k.place k.made.unrefused in
     let count = fit.few in
@@ -254,15 +253,16 @@ built_of hash said media definition message other b texts k p =
     record { is = built; same = refl }
 
 -- what is left of a media file has all bytes outside the range of its store
-base_keeps : LeftKeeps
-    → (hash : Alg → List ℕ → List ℕ) (said : Question → Verdict) (media : List ℕ) (what : Opening Tree) (m : MediaFile)
+base_keeps :
+    (hash : Alg → List ℕ → List ℕ) (said : Question → Verdict) (media : List ℕ) (what : Opening Tree) (m : MediaFile)
     → IsOpened media what
     → IsMediaFile hash said media what m → KeepsOutside media (embedded_range what) m.base
-base_keeps law hash said media (refused reason number) m opened is = absurd is
-base_keeps law hash said media absent m opened is =
+base_keeps hash said media (refused reason number) m opened is = absurd is
+base_keeps hash said media absent m opened is =
     subst (λ (x : MediaFile). KeepsOutside media None x.base) (sym is)
     (record { freed = None; only = inl refl; same = refl })
-base_keeps law hash said media (here start len t) m opened is = law media start len t m.base opened is.left
+base_keeps hash said media (here start len t) m opened is =
+    a_file_at_a_split_keeps_its_bytes_left media start len t m.base opened is.left
 
 -- the new file less its range has all bytes of the media outside the range of its store
 file_keeps : (media : List ℕ) (old : Option Range) (base file : List ℕ) (start at len count : ℕ)
@@ -307,10 +307,10 @@ made_meets hash said media definition message other b digests texts h = record {
       (media_asks hash said media k.what k.pair.media (opened_as media k.what k.is_media) p.is_media)
       (other_asks hash said other p.is_pair.found k.pair.other p.is_pair.is_found p.is_pair.is_other) (pair_questions k.pair) met.either;
   approved = all_approved hash said k.pair.media.boxes k.pair.other.boxes k.pair.media.readings k.pair.other.readings built.is.collects.can.joins
-      (media_approved a_valid_store_is_approved hash said media k.what k.pair.media p.is_media built.is.collects.media)
-      (other_approved a_valid_store_is_approved hash said other p.is_pair.found k.pair.other p.is_pair.is_other built.is.collects.other);
+      (media_approved hash said media k.what k.pair.media p.is_media built.is.collects.media)
+      (other_approved hash said other p.is_pair.found k.pair.other p.is_pair.is_other built.is.collects.other);
   kept = file_keeps media (embedded_range p.is_pair.opened) k.pair.media.base b.file (place_start k.place) b.start met.len b.len
-      (base_keeps a_file_at_a_split_keeps_its_bytes_left hash said media p.is_pair.opened k.pair.media p.is_pair.is_opened p.is_pair.is_media) met.base start len;
+      (base_keeps hash said media p.is_pair.opened k.pair.media p.is_pair.is_opened p.is_pair.is_media) met.base start len;
   accepted = λ others approved.
       let a = met.accepted others approved in
       accepted_answer hash others b.file (place_start k.place) met.len met.store a.0 a.1;

@@ -1,6 +1,8 @@
 -- A file of a new store that collects from two files is what a build comes to over files that are read so.
 use Rattle.std.proofs.Common.{◌≡◌, ℕ, List, [], ◌++◌, length, refl, sym, ap, ◌∙◌}
 use Rattle.std.specs.Prelude.{Result, Ok}
+use Rattle.c2_lemmas.proofs.Stages.{then_next, unless_passes}
+use Rattle.c2_lemmas.proofs.Lists.{both_none, none_both}
 use Rattle.c2_base.specs.declared.values.Question.{Question}
 use Rattle.c2_spec.specs.Jumbf.Tree.{Tree}
 use Rattle.c2_spec.specs.Located.{Opening, absent, here, refused}
@@ -8,15 +10,13 @@ use Rattle.c2_spec.specs.declared.digest.Alg.{Alg}
 use Rattle.c2_spec.specs.declared.panel.Verdict.{Verdict}
 use Rattle.c2_rules.specs.Opened.{IsOpened}
 use Rattle.c2_definition.specs.declared.types.Definition.{Definition}
-use Rattle.c2_new_signature.specs.Signed.{FillsOrNeedsMore}
 use Rattle.c2_new_file_spec.specs.Places.{place_file, place_start, range_len}
 use Rattle.c2_collect_spec.specs.Made.{CollectedIsMade}
 use Rattle.c2_collect_spec.specs.Order.{CollectRefusal, FilePair, IsFilePair, IsMediaFile, MediaFile}
 use Rattle.c2_collect_spec.specs.Order.{joined_refusals, other_refusals, pair_refusals, parent_refusals, reserve_refusals}
 use Rattle.c2_collect_spec.specs.Outcomes.{CollectGround, IsDefinitionStage, IsGroundStage, IsJoinedStage, IsMadeOn, IsMadeOver, IsMediaStage, IsMessageStage, IsNewFile, IsOtherStage}
 use Rattle.c2_collect_spec.specs.Outcomes.{IsPairStage, IsParentStage, NewFile, ground_refusals, media_stage, new_file}
-use Rattle.c2_collect_spec.proofs.Order.{both_none, file_unrefused, none_both, pair_unrefused, reserve_unrefused}
-use Rattle.c2_collect_spec.proofs.Stages.{then_next, unless_passes}
+use Rattle.c2_collect_spec.proofs.Order.{file_unrefused, pair_unrefused, reserve_unrefused}
 
 -- a media file that is something to a new store passes
 media_passes :
@@ -44,8 +44,8 @@ pair_passes hash said media other d p is none =
     (p.clash, is.is_clash, unless_passes (joined_refusals d p) (λ r. r ≡ Ok p) (Ok p) theirs.1 refl))
 
 -- a file that collects is made where nothing is refused
-pub collected_made : FillsOrNeedsMore → CollectedIsMade
-collected_made fills hash said media definition message other d pair parts p file defined accepted spelled is b =
+pub collected_made : CollectedIsMade
+collected_made hash said media definition message other d pair parts p file defined accepted spelled is b =
     then_next (IsMediaStage media) _ is.opened (Ok new)
     (media_passes hash said media is.opened pair.media is.is_opened is.is_media)
     (then_next (IsDefinitionStage definition) _ d (Ok new) (Ok d, defined, refl)
@@ -54,7 +54,7 @@ collected_made fills hash said media definition message other d pair parts p fil
     (pair_passes hash said media other d pair is (pair_unrefused hash said d media other pair is b.collects))
     (then_next (IsGroundStage d pair) (IsMadeOn hash d parts) g (Ok new) (b.content, b.collected.content, (p, b.can.place.is, refl))
     (unless_passes (ground_refusals d g ++ reserve_refusals d parts) (IsNewFile hash d parts g) (Ok new)
-    (none_both (ground_refusals d g) (reserve_refusals d parts) (file_unrefused hash d pair parts p file b) (reserve_unrefused fills hash d pair parts p file b))
+    (none_both (ground_refusals d g) (reserve_refusals d parts) (file_unrefused hash d pair parts p file b) (reserve_unrefused hash d pair parts p file b))
     (b.message, b.signed, (b.bytes, b.put, same)))))))
   where
     g : CollectGround

@@ -1,5 +1,6 @@
 -- What is refused of two files and of a new file that collects from them, and what can be built.
-use Rattle.std.proofs.Common.{◌≡◌, ℕ, ◌+◌, ◌<◌, ◌≤◌, Bool, true, false, cond, List, [], ◌∷◌, ◌++◌, length, Option, Some, None, option_map, refl, sym, ap, ap₂, ◌∙◌, subst, ⊎_elim, arith}
+use Rattle.c2_new_signature.proofs.TheLaws.{a_message_fills_its_reserve_or_needs_more}
+use Rattle.std.proofs.Common.{◌≡◌, ℕ, ◌+◌, ◌<◌, ◌≤◌, Bool, true, false, cond, List, [], ◌∷◌, length, Option, Some, None, option_map, refl, sym, ap, ◌∙◌, subst, ⊎_elim, arith}
 use Rattle.std.specs.Prelude.{is_none, nat_le, nat_lt}
 use Rattle.std.specs.Option.{option_to_list}
 use Rattle.std.proofs.lemmas.Bool.{le-ltb, leb-false, lt-leb, ltb-false}
@@ -25,10 +26,10 @@ use Rattle.c2_rules.specs.declared.answer.Failing.{Failing}
 use Rattle.c2_rules.specs.declared.answer.Summary.{Summary}
 use Rattle.c2_rules.proofs.FirstLemmas.{all_hold}
 use Rattle.c2_chain_spec.specs.Joined.{has_manifest}
-use Rattle.c2_chain_spec.specs.Rooted.{StoreIsRooted, is_reached_from, last_roots}
+use Rattle.c2_chain_spec.specs.Rooted.{is_reached_from, last_roots}
 use Rattle.c2_definition.specs.declared.types.Definition.{Definition}
 use Rattle.c2_new_signature.specs.Refusals.{reserve_needed}
-use Rattle.c2_new_signature.specs.Signed.{FillsOrNeedsMore, IsSigned}
+use Rattle.c2_new_signature.specs.Signed.{IsSigned}
 use Rattle.c2_new_file_spec.specs.Manifests.{supers_in}
 use Rattle.c2_new_file_spec.specs.Store.{Content, new_alg}
 use Rattle.c2_new_file_spec.specs.Places.{CanPut, HasRoom, Place, in_boxes, in_segments, place_file, place_store, put_bytes, range_len, store_len}
@@ -43,17 +44,9 @@ use Rattle.c2_collect_spec.specs.Stores.{IsAcceptedFile, IsRootedStore}
 use Rattle.c2_collect_spec.proofs.Contents.{content_one}
 use Rattle.c2_collect_spec.proofs.Stores.{accepted_rooted, none_rooted}
 use Rattle.c2_lemmas.proofs.Options.{never_some}
+use Rattle.c2_lemmas.proofs.Lists.{both_none, none_both}
 
 -- ---- lists of refusals
-
--- two lists that are none together
-pub both_none : (xs ys : List CollectRefusal) → xs ++ ys ≡ [] → (xs ≡ []) × (ys ≡ [])
-both_none [] ys e = (refl, e)
-both_none (x ∷ xs) ys e = absurd (cc (e))
-
--- none and none
-pub none_both : (xs ys : List CollectRefusal) → xs ≡ [] → ys ≡ [] → xs ++ ys ≡ []
-none_both xs ys e h = ap₂ (λ (a b : List CollectRefusal). a ++ b) e h
 
 -- nothing comes of nothing alone
 pub none_told : {A : Type 0} (f : A → CollectRefusal) (o : Option A) → option_to_list (option_map f o) ≡ [] → o ≡ None
@@ -97,22 +90,22 @@ pub record IsOtherStore (hash : Alg → List ℕ → List ℕ) (o : OtherFile) :
   pub some : 0 < length o.readings
 
 -- the store of another file that is valid can be joined
-pub other_store : StoreIsRooted
-    → (hash : Alg → List ℕ → List ℕ) (said : Question → Verdict) (file : List ℕ) (what : Opening Tree) (o : OtherFile)
+pub other_store :
+    (hash : Alg → List ℕ → List ℕ) (said : Question → Verdict) (file : List ℕ) (what : Opening Tree) (o : OtherFile)
     → IsOpened file what → IsOtherFile hash said file what o → IsValidAnswer o.answer → IsOtherStore hash o
-other_store law hash said file (refused reason number) o opened is valid =
+other_store hash said file (refused reason number) o opened is valid =
     let bad : answers.Refused reason number ≡ answers.Valid valid.0 =
     sym (ap (λ (x : OtherFile). x.answer) is) ∙ valid.1 in absurd (cc (bad))
-other_store law hash said file absent o opened is valid =
+other_store hash said file absent o opened is valid =
     let bad : answers.NoStore ≡ answers.Valid valid.0 =
     sym (ap (λ (x : OtherFile). x.answer) is) ∙ valid.1 in absurd (cc (bad))
-other_store law hash said file (here start len t) o opened is valid =
+other_store hash said file (here start len t) o opened is valid =
     let none =
     none_failing (summary_of (length file) start len is.reading) valid.0
     (first_failing (check_list hash said is.reading)) (sym is.answer ∙ valid.1) in
     let accepted : IsAcceptedFile hash said file start len t is.reading =
     record { opened = opened; reads = is.reads; valid = all_hold (check_list hash said is.reading) none } in
-    let k = accepted_rooted law hash said file start len t is.reading accepted in
+    let k = accepted_rooted hash said file start len t is.reading accepted in
     record {
       rooted = subst (λ (rs : List Reading). IsRootedStore hash o.boxes rs (last_roots rs)) (sym is.readings)
           (subst (λ (x : Trees). IsRootedStore hash x is.reading.readings (last_roots is.reading.readings)) (sym is.boxes) k.0);
@@ -122,17 +115,17 @@ other_store law hash said file (here start len t) o opened is valid =
 -- ---- the media file
 
 -- the media's store can be joined, where no rule of it fails; where there is none, no boxes can
-pub media_store : StoreIsRooted
-    → (hash : Alg → List ℕ → List ℕ) (said : Question → Verdict) (file : List ℕ) (what : Opening Tree) (m : MediaFile)
+pub media_store :
+    (hash : Alg → List ℕ → List ℕ) (said : Question → Verdict) (file : List ℕ) (what : Opening Tree) (m : MediaFile)
     → IsOpened file what → IsMediaFile hash said file what m → m.failing ≡ None
     → IsRootedStore hash m.boxes m.readings (last_roots m.readings)
-media_store law hash said file (refused reason number) m opened is none = absurd is
-media_store law hash said file absent m opened is none =
+media_store hash said file (refused reason number) m opened is none = absurd is
+media_store hash said file absent m opened is none =
     subst (λ (x : MediaFile). IsRootedStore hash x.boxes x.readings (last_roots x.readings)) (sym is) (none_rooted hash)
-media_store law hash said file (here start len t) m opened is none =
+media_store hash said file (here start len t) m opened is none =
     let accepted : IsAcceptedFile hash said file start len t is.reading =
     record { opened = opened; reads = is.reads; valid = all_hold (check_list hash said is.reading) (sym is.failing ∙ none) } in
-    let k = accepted_rooted law hash said file start len t is.reading accepted in
+    let k = accepted_rooted hash said file start len t is.reading accepted in
     subst (λ (rs : List Reading). IsRootedStore hash m.boxes rs (last_roots rs)) (sym is.readings)
     (subst (λ (x : Trees). IsRootedStore hash x is.reading.readings (last_roots is.reading.readings)) (sym is.boxes) k.0)
 
@@ -151,8 +144,8 @@ clash_none olds was others reached None h apart = refl
 clash_none olds was others reached (Some label) h apart = absurd (apart h.place h.first.here)
 
 -- a new store may collect from two files of which nothing is refused
-pub pair_collects : StoreIsRooted → UnrefusedPairCollects
-pair_collects law hash said d media other p is e =
+pub pair_collects : UnrefusedPairCollects
+pair_collects hash said d media other p is e =
     let parent = both_none (option_to_list (option_map parent_fails p.media.failing)) _ e in
     let found = both_none (other_refusals p.other.answer) _ parent.1 in
     let clash = both_none (option_to_list (option_map label_clash p.clash)) _ found.1 in
@@ -160,13 +153,13 @@ pair_collects law hash said d media other p is e =
     let failing : p.media.failing ≡ None = none_told parent_fails p.media.failing parent.0 in
     let valid : IsValidAnswer p.other.answer = valid_answer p.other.answer found.0 in
     let o : IsOtherStore hash p.other =
-    other_store law hash said other is.found p.other is.is_found is.is_other valid in
+    other_store hash said other is.found p.other is.is_found is.is_other valid in
     record {
       media = failing;
       other = valid;
       can = record {
         joins = record {
-          old_store = media_store law hash said media is.opened p.media is.is_opened is.is_media failing;
+          old_store = media_store hash said media is.opened p.media is.is_opened is.is_media failing;
           other_store = o.rooted;
           some = o.some;
           apart =
@@ -268,16 +261,17 @@ some_bytes (in_boxes roots) h store = (_, refl)
 -- ---- all of it
 
 -- where nothing is refused, the file is built with a message that fills what is reserved for it
-pub nothing_refused : StoreIsRooted → FillsOrNeedsMore → NothingRefusedIsCollected
-nothing_refused law fills hash said media other d parts pair c p h e =
+pub nothing_refused : NothingRefusedIsCollected
+nothing_refused hash said media other d parts pair c p h e =
     let both = both_none (pair_refusals d pair) _ e in
     let file = both_none (collected_refusals d pair c p) (reserve_refusals d parts) both.1 in
     let needed : Option ℕ = reserve_needed d.reserve (length (bare_bytes parts)) in
     let enough : needed ≡ None = none_told reserve_too_small needed file.1 in
-    let k : CanCollectPair hash d pair = pair_collects law hash said d media other pair h.read both.0 in
+    let k : CanCollectPair hash d pair = pair_collects hash said d media other pair h.read both.0 in
     let f : Fits base c d.reserve (length (pair_readings pair) + 1) p =
     file_fits base c d.reserve (length (pair_readings pair) + 1) p file.0 in
-    ⊎_elim (λ s. made k f s) (λ n. absurd (let bad = sym enough ∙ n.1 in cc (bad))) (fills.either h.bytes parts d.reserve h.paddable)
+    ⊎_elim (λ s. made k f s) (λ n. absurd (let bad = sym enough ∙ n.1 in cc (bad)))
+    (a_message_fills_its_reserve_or_needs_more.either h.bytes parts d.reserve h.paddable)
   where
     base : List ℕ
     base = pair.media.base
@@ -320,20 +314,21 @@ file_unrefused hash d pair parts p file b =
     (record { room = can.room; few = omega (arith, count); small = can.small; fits = can.fits })
 
 -- nothing of the message of a new file is refused where the file is built
-pub reserve_unrefused : FillsOrNeedsMore
-    → (hash : Alg → List ℕ → List ℕ) (d : Definition) (pair : FilePair) (parts : SignParts) (p : Place) (file : List ℕ)
+pub reserve_unrefused :
+    (hash : Alg → List ℕ → List ℕ) (d : Definition) (pair : FilePair) (parts : SignParts) (p : Place) (file : List ℕ)
     → IsCollectedFile hash d pair parts p file → reserve_refusals d parts ≡ []
-reserve_unrefused fills hash d pair parts p file b =
+reserve_unrefused hash d pair parts p file b =
     let needed : Option ℕ = reserve_needed d.reserve (length (bare_bytes parts)) in
     told_none reserve_too_small needed
-    (never_some needed (λ n e. fills.never_both parts d.reserve b.message b.signed (n, e)))
+    (never_some needed
+    (λ n e. a_message_fills_its_reserve_or_needs_more.never_both parts d.reserve b.message b.signed (n, e)))
 
 -- nothing at all is refused where a file is built
-pub built_unrefused : FillsOrNeedsMore → CollectedIsNotRefused
-built_unrefused fills hash said media other d parts pair c p file h b =
+pub built_unrefused : CollectedIsNotRefused
+built_unrefused hash said media other d parts pair c p file h b =
     let same : b.content ≡ c =
     content_one d pair.media.boxes pair.other.boxes pair.media.readings pair.other.readings b.content c b.collected.content h.content in
     none_both (pair_refusals d pair) _ (pair_unrefused hash said d media other pair h.read b.collects)
     (none_both (collected_refusals d pair c p) (reserve_refusals d parts)
     (subst (λ (g : Content). collected_refusals d pair g p ≡ []) same (file_unrefused hash d pair parts p file b))
-    (reserve_unrefused fills hash d pair parts p file b))
+    (reserve_unrefused hash d pair parts p file b))

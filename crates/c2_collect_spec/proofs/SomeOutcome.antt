@@ -1,12 +1,11 @@
 -- Two files whose checks answer something come to some plan and to some new file, or to what refuses them.
-use Rattle.c2_new_file_spec.proofs.ParentLaws.{a_redacted_store_is_read_less}
 use Rattle.c2_collect_spec.proofs.Contents.{some_collects}
 use Rattle.c2_definition.proofs.TheLaws.{definitions_are_well_formed, each_definition_is_read_one_way_some}
-use Rattle.c2_new_signature.proofs.TheLaws.{a_message_fills_its_reserve_or_needs_more, accepted_paddable, each_message_is_accepted_or_refused_for_one_test, some_message_read}
+use Rattle.c2_new_signature.proofs.TheLaws.{a_message_fills_its_reserve_or_needs_more, accepted_paddable, some_message_read}
 use Rattle.c2_new_file_spec.proofs.FileLaws.{each_media_has_a_place_fresh, each_media_has_a_place_left, each_media_has_a_place_place}
-use Rattle.c2_chain_spec.proofs.ChainLaws.{a_store_is_rooted_at_its_last_manifest}
 use Rattle.c2_lemmas.proofs.Options.{listed_some}
-use Rattle.c2_lemmas.proofs.Stages.{some_stage, stage_value}
+use Rattle.c2_lemmas.proofs.Stages.{Something, passed, some_stage, some_then, some_unless, stage_value, unless_passed}
+use Rattle.c2_lemmas.proofs.Lists.{both_none, none_both}
 use Rattle.c2_spec.proofs.Openings.{opening_value}
 use Rattle.std.proofs.Common.{◌≡◌, ◌⊎◌, inl, inr, ℕ, ◌+◌, List, [], ◌++◌, length, Option, None, refl, sym, subst}
 use Rattle.std.specs.Prelude.{Result, Ok}
@@ -28,11 +27,10 @@ use Rattle.c2_rules.specs.declared.answer.Answer.TheVariants as answers
 use Rattle.c2_definition.specs.DefinitionFile.{IsDefinition, IsWellFormed}
 use Rattle.c2_definition.specs.declared.types.Definition.{Definition}
 use Rattle.c2_new_signature.specs.Refusals.{reserve_needed}
-use Rattle.c2_new_signature.specs.Signed.{FillsOrNeedsMore, IsSigned, NeedsMore}
+use Rattle.c2_new_signature.specs.Signed.{IsSigned, NeedsMore}
 use Rattle.c2_new_file_spec.specs.Manifests.{supers_in}
 use Rattle.c2_new_file_spec.specs.Store.{new_alg}
 use Rattle.c2_new_file_spec.specs.Redacting.{boxes_in}
-use Rattle.c2_new_file_spec.specs.Laws.{SomeLeft}
 use Rattle.c2_new_file_spec.specs.Places.{HasRoom, IsFreePlace, Place, place_store}
 use Rattle.c2_collect_spec.specs.Order.{CollectRefusal, FilePair, IsFilePair, IsMediaFile, IsOtherFile, IsValidAnswer, MediaFile, OtherFile}
 use Rattle.c2_collect_spec.specs.Order.{bad_definition, bad_signature, joined_refusals, media_refused, other_refusals, pair_readings, pair_refusals, parent_refusals, reserve_refusals, reserve_too_small}
@@ -41,14 +39,7 @@ use Rattle.c2_new_signature.specs.Message.{IsMessageRead}
 use Rattle.c2_collect_spec.specs.Outcomes.{IsNewFile, IsOtherStage, IsPairStage, IsParentStage, IsPlannedOn, IsPlannedOver, SomeCollectMade, SomeCollectPlan, ground_signed}
 use Rattle.c2_collect_spec.specs.Outcomes.{definition_stage, ground_refusals, media_stage, message_stage, new_file, pair_of}
 use Rattle.c2_collect_spec.proofs.Clashes.{some_clash}
-use Rattle.c2_collect_spec.proofs.Order.{both_none, file_fits, none_both, other_store, pair_collects, some_bytes, valid_answer}
-use Rattle.c2_collect_spec.proofs.Stages.{Something, passed, some_then, some_unless, unless_passed}
-
--- ---- what laws of other crates say
-
--- a definition that a file is is well formed
-abbrev pub AreWellFormed : Type 0
-AreWellFormed = (file : List ℕ) (d : Definition) → IsDefinition file (Ok d) → IsWellFormed d
+use Rattle.c2_collect_spec.proofs.Order.{file_fits, other_store, pair_collects, some_bytes, valid_answer}
 
 -- ---- the media
 
@@ -86,17 +77,17 @@ answer_over hash said file what c opened =
     subst (λ (w : Opening Tree). IsOpenedAnswer hash said file w c.answer) (c.once c.is.0 what c.is.1 opened) c.is.2
 
 -- a media file that passed is something to a new store
-some_media_file : SomeLeft
-    → (hash : Alg → List ℕ → List ℕ) (said : Question → Verdict) (media : List ℕ) (what : Opening Tree)
+some_media_file :
+    (hash : Alg → List ℕ → List ℕ) (said : Question → Verdict) (media : List ℕ) (what : Opening Tree)
     → HasCheck hash said media → IsMediaStage media (Ok what)
     → (m : MediaFile) × IsMediaFile hash said media what m
-some_media_file law hash said media (refused reason number) c m = refused_not media reason number m
-some_media_file law hash said media absent c m =
+some_media_file hash said media (refused reason number) c m = refused_not media reason number m
+some_media_file hash said media absent c m =
     (record { boxes = jumbf.none; readings = []; failing = None; base = media }, refl)
-some_media_file law hash said media (here start len t) c m =
+some_media_file hash said media (here start len t) c m =
     let opened : IsOpened media (here start len t) = opened_as media (here start len t) m in
     let reads = answer_over hash said media (here start len t) c opened in
-    let left = law media start len t opened in (
+    let left = each_media_has_a_place_left media start len t opened in (
       record { boxes = boxes_in t; readings = reads.0.readings; failing = first_failing (check_list hash said reads.0); base = left.0 },
       record { reading = reads.0; reads = reads.1; boxes = refl; readings = refl; failing = refl; left = left.1 },
     )
@@ -173,7 +164,7 @@ some_pair hash said media other what d own theirs is_media =
   where
     parent : Something (IsParentStage hash said media what)
     parent =
-        let m = some_media_file each_media_has_a_place_left hash said media what own is_media in
+        let m = some_media_file hash said media what own is_media in
         let r = some_unless (parent_refusals m.0) (λ s. s ≡ Ok m.0) (λ none. (Ok m.0, refl)) in
         (r.0, (m.0, m.1, r.1))
 
@@ -186,7 +177,7 @@ some_pair hash said media other what d own theirs is_media =
     joined : (m : MediaFile) (o : OtherFile) → IsOtherPassed hash said other o → Something (IsJoinedStage d m o)
     joined m o p =
         let store =
-        other_store a_store_is_rooted_at_its_last_manifest hash said other p.found o p.opened p.is p.valid in
+        other_store hash said other p.found o p.opened p.is p.valid in
         let clash =
         some_clash (supers_in m.boxes) (is_reached m.readings) (supers_in o.boxes) (is_reached o.readings)
         store.rooted.stores in
@@ -245,22 +236,23 @@ defined_of file d h = stage_value bad_definition (IsDefinition file) d h
 some_ground : (hash : Alg → List ℕ → List ℕ) (said : Question → Verdict) (media other : List ℕ) (what : Opening Tree) (d : Definition) (p : FilePair)
     → IsMediaStage media (Ok what) → IsPairPassed hash said media other what d p → Something (IsGroundStage d p)
 some_ground hash said media other what d p is_media h =
-    let can = pair_collects a_store_is_rooted_at_its_last_manifest hash said d media other p h.is_pair h.none in
+    let can = pair_collects hash said d media other p h.is_pair h.none in
     let c =
-    (some_collects a_redacted_store_is_read_less) hash d p.media.boxes p.other.boxes p.media.readings p.other.readings can.can in
+    some_collects hash d p.media.boxes p.other.boxes p.media.readings p.other.readings can.can in
     let place = free_place hash said media what p.media (opened_as media what is_media) h.is_media in
     (Ok (record { pair = p; content = c.0; place = place.0 }), (c.0, c.1, (place.0, place.1.is, refl)))
 
 -- a file is built where nothing is refused
-some_made : FillsOrNeedsMore
-    → (hash : Alg → List ℕ → List ℕ) (bytes : List ℕ) (d : Definition) (m : SignParts) (g : CollectGround)
+some_made :
+    (hash : Alg → List ℕ → List ℕ) (bytes : List ℕ) (d : Definition) (m : SignParts) (g : CollectGround)
     → IsMessageRead d.protected bytes (Ok m) → IsWellFormed d
     → ground_refusals d g ++ reserve_refusals d m ≡ [] → Something (IsNewFile hash d m g)
-some_made fills hash bytes d m g taken formed none =
+some_made hash bytes d m g taken formed none =
     let both = both_none (ground_refusals d g) (reserve_refusals d m) none in
     let fit = file_fits g.pair.media.base g.content d.reserve (length (pair_readings g.pair) + 1) g.place both.0 in
     by both.1 fit.room
-    (fills.either bytes m d.reserve (accepted_paddable d.protected bytes m d.reserve taken.0 taken.1 formed.most))
+    (a_message_fills_its_reserve_or_needs_more.either bytes m d.reserve
+    (accepted_paddable d.protected bytes m d.reserve taken.0 taken.1 formed.most))
   where
     by : reserve_refusals d m ≡ [] → HasRoom g.place
         → ((message : List ℕ) × IsSigned m d.reserve message) ⊎ NeedsMore m d.reserve → Something (IsNewFile hash d m g)
@@ -292,10 +284,10 @@ some_file hash said media definition message other own theirs are =
     (some_stage definition_stage (IsDefinition definition) (each_definition_is_read_one_way_some definition)) (λ d is_d.
     some_then (IsMessageStage d.protected message) _
     (some_stage message_stage (IsMessageRead d.protected message)
-    (some_message_read each_message_is_accepted_or_refused_for_one_test d.protected message are)) (λ m is_m.
+    (some_message_read d.protected message are)) (λ m is_m.
     some_then (IsPairStage hash said media other what d) (IsMadeOver hash d m) (some_pair hash said media other what d own theirs is_media) (λ p is_p.
     some_then (IsGroundStage d p) (IsMadeOn hash d m) (some_ground hash said media other what d p is_media (pair_passed hash said media other what d p is_media is_p)) (λ g is_g.
     some_unless (ground_refusals d g ++ reserve_refusals d m) (IsNewFile hash d m g)
-    (some_made a_message_fills_its_reserve_or_needs_more hash message d m g
+    (some_made hash message d m g
     (stage_value bad_signature (IsMessageRead d.protected message) m is_m)
     (definitions_are_well_formed definition d (defined_of definition d is_d))))))))

@@ -1,7 +1,8 @@
 -- Two stores that can be joined and don't clash join to one; a valid store can be joined, and so can that of an accepted file; and a
 -- store that can be joined is taken over by a new one.
 use Rattle.c2_read_manifests.proofs.TheLaws.{one_reading_manifest}
-use Rattle.c2_chain_spec.proofs.ChainLaws.{chains_join}
+use Rattle.c2_chain_spec.proofs.ChainLaws.{a_store_is_rooted_at_its_last_manifest, chains_join}
+use Rattle.c2_new_file_spec.proofs.ParentLaws.{a_redacted_store_is_read_less}
 use Rattle.std.proofs.Common.{◌≡◌, ℕ, ◌+◌, ◌<◌, Bool, true, false, not, ◌&&◌, cond, List, [], ◌∷◌, ◌++◌, length, map, Some, None, refl, sym, ap, ◌∙◌, subst, arith, bytes_eq, lit≤}
 use Rattle.std.specs.Prelude.{unwrap_or}
 use Rattle.std.specs.List.{AllByRecursion, AllZip}
@@ -17,13 +18,13 @@ use Rattle.c2_rules.specs.Readings.{AreReadings, IsReading, Reading}
 use Rattle.c2_rules.specs.Rules.{unjudged_tests}
 use Rattle.c2_rules.specs.Tests.{AllHold}
 use Rattle.c2_chain_spec.specs.Joined.{NoneClashes, has_manifest, is_carried, joined, picked}
-use Rattle.c2_chain_spec.specs.Rooted.{AllReadKinds, StoreIsRooted, is_reached_from, last_roots}
+use Rattle.c2_chain_spec.specs.Rooted.{AllReadKinds, is_reached_from, last_roots}
 use Rattle.c2_definition.specs.declared.types.Definition.{Definition}
 use Rattle.c2_new_file_spec.specs.Manifests.{is_super, manifest_of, supers_in, supers_of}
 use Rattle.c2_new_file_spec.specs.Written.{IsStoreBox}
 use Rattle.c2_new_file_spec.proofs.ByIndex.{same_manifests}
 use Rattle.c2_rules.proofs.Conditions.{Holds, all_each, all_hold}
-use Rattle.c2_new_file_spec.specs.Less.{IsReadLess, RedactedStoreIsRead}
+use Rattle.c2_new_file_spec.specs.Less.{IsReadLess}
 use Rattle.c2_new_file_spec.specs.Redacting.{boxes_in, redacted_boxes}
 use Rattle.c2_new_file_spec.proofs.Places.{less_len}
 use Rattle.c2_new_file_spec.proofs.Stores.{label_some, legal_at, legal_inside, none_taken, read_label, read_len, some_boxes, store_boxes, store_differs, supers_are}
@@ -38,12 +39,6 @@ use Rattle.c2_lemmas.proofs.Each.{each_append, each_back, each_front, zip_append
 use Rattle.c2_new_file_spec.proofs.Valid.{boxes_kinds, unjudged_all}
 use Rattle.c2_spec.proofs.JumbfOneTree.{spells_once}
 use Rattle.c2_rules.proofs.OpenedStore.{IsOpenedStore, opened_store}
-
--- ---- what the laws of other crates say
-
--- a manifest comes to one reading
-abbrev pub OneReading : Type 0
-OneReading = (m : Manifest) (r s : Reading) → IsReading m r → IsReading m s → r ≡ s
 
 -- ---- stores that join
 
@@ -160,8 +155,8 @@ all_kinds : (ms : List Manifest) (rs : List Reading) → AreReadings ms rs → A
 all_kinds ms rs h i r is = let at = zip_at IsReading ms rs i r h is in boxes_kinds at.it.assertions r.boxes at.corresponds.boxes
 
 -- a valid store can be joined
-pub valid_rooted : StoreIsRooted → ValidStoreIsRooted
-valid_rooted rooted hash said t s h =
+pub valid_rooted : ValidStoreIsRooted
+valid_rooted hash said t s h =
     let rs : List Reading = s.readings in
     let boxes : Trees = boxes_in t in
     let inside = legal_inside t h.legal in
@@ -177,7 +172,7 @@ valid_rooted rooted hash said t s h =
       stores = stores;
       reads = reads;
       rooted =
-          rooted hash rs (store_differs boxes rs reads stores inside.distinct)
+          a_store_is_rooted_at_its_last_manifest hash rs (store_differs boxes rs reads stores inside.distinct)
           (all_kinds (map manifest_of (supers_in boxes)) rs reads) (valid_chain hash said s h.valid);
     }
 
@@ -196,11 +191,11 @@ none_rooted hash = record {
 -- ---- an accepted file
 
 -- the store of an accepted file can be joined
-pub accepted_rooted : StoreIsRooted → AcceptedFileIsRooted
-accepted_rooted rooted hash said file start len t s h =
+pub accepted_rooted : AcceptedFileIsRooted
+accepted_rooted hash said file start len t s h =
     let o : IsOpenedStore t = opened_store file start len t h.opened in
     let sided : IsRootedStore hash (boxes_in t) s.readings (last_roots s.readings) =
-    valid_rooted rooted hash said t s
+    valid_rooted hash said t s
     (record { legal = o.legal; store = o.accepted; reads = h.reads.reads.each; valid = h.valid }) in (
       sided,
       subst (λ k. 0 < k) (ap length (supers_are t) ∙ read_len (supers_in (boxes_in t)) s.readings sided.reads)
@@ -239,7 +234,7 @@ taken_less hash d boxes rs roots k h free room refusal =
     }
 
 -- a rooted store is taken over
-pub rooted_taken : RedactedStoreIsRead → RootedStoreIsTaken
-rooted_taken less hash d boxes rs roots h free room refusal =
-    let k : IsReadLess d.redact boxes rs = less d.redact boxes rs h.legal h.stores h.reads in
+pub rooted_taken : RootedStoreIsTaken
+rooted_taken hash d boxes rs roots h free room refusal =
+    let k : IsReadLess d.redact boxes rs = a_redacted_store_is_read_less d.redact boxes rs h.legal h.stores h.reads in
     (k.ss, taken_less hash d boxes rs roots k h free room refusal)

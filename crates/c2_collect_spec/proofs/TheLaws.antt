@@ -1,5 +1,4 @@
 -- The laws of this crate, for the proofs of the crates above it.
-use Rattle.c2_chain_spec.proofs.ChainLaws.{a_store_is_rooted_at_its_last_manifest}
 use Rattle.c2_collect_spec.proofs.Accepted.{accepted, refusals_standing}
 use Rattle.c2_collect_spec.proofs.Asked.{one_asks, one_plan_asks, some_asks, some_plan_asks}
 use Rattle.c2_collect_spec.proofs.Collecting.{all_approved, collected_meets, collected_reaches, joined_reaches, of_either}
@@ -28,15 +27,6 @@ use Rattle.c2_collect_spec.specs.Outcomes.{OneCollectMade, OneCollectPlan, SomeC
 use Rattle.c2_collect_spec.specs.Refusals.{FirstRedactionIsLeastBy, RedactionsAreAcceptedBy, RefusalsAreStanding}
 use Rattle.c2_collect_spec.specs.Stores.{AcceptedFileIsRooted, NoStoreIsRooted, RootedStoreIsTaken, RootedStoresJoin, ValidStoreIsRooted}
 use Rattle.c2_collect_spec.specs.Whole.{EachCollectedFileMeets}
-use Rattle.c2_definition.proofs.TheLaws.{each_definition_is_read_one_way_one}
-use Rattle.c2_new_content_spec.proofs.ContentLaws.{a_gathered_store_meets_the_rules_meets, a_gathered_store_meets_the_rules_reaches}
-use Rattle.c2_new_file_spec.proofs.FileLaws.{a_place_is_one, what_is_left_is_one}
-use Rattle.c2_new_lengths_spec.proofs.TheLaws.{the_length_of_a_new_store_fits}
-use Rattle.c2_new_signature.proofs.TheLaws.{a_message_fills_its_reserve_or_needs_more, each_message_is_accepted_or_refused_for_one_test}
-use Rattle.c2_new_content_spec.proofs.SplitLaws.{a_place_is_a_split_file}
-use Rattle.c2_new_file_spec.proofs.ParentLaws.{a_redacted_store_is_read_less}
-use Rattle.c2_read_manifests.proofs.TheLaws.{one_reading_store}
-use Rattle.c2_cbor_spec.proofs.PlainBack.{one_item}
 
 -- redactions of a chain of which none is refused may be made, and the rules on redactions hold of them
 pub redactions_of_a_chain_may_be_made_accepted : RedactionsAreAcceptedBy
@@ -52,7 +42,7 @@ redactions_of_a_chain_may_be_made_standing = refusals_standing
 
 -- a valid store can be joined with another, seen from its last manifest
 pub stores_join_valid : ValidStoreIsRooted
-stores_join_valid = valid_rooted a_store_is_rooted_at_its_last_manifest
+stores_join_valid = valid_rooted
 
 -- a valid store can be joined with another, seen from its last manifest
 pub stores_join_none : NoStoreIsRooted
@@ -64,11 +54,11 @@ stores_join_join = rooted_join
 
 -- a valid store can be joined with another, seen from its last manifest
 pub stores_join_taken : RootedStoreIsTaken
-stores_join_taken = rooted_taken a_redacted_store_is_read_less
+stores_join_taken = rooted_taken
 
 -- the store of an accepted file can be joined with another, seen from its last manifest, and it has one
 pub an_accepted_file_can_be_collected : AcceptedFileIsRooted
-an_accepted_file_can_be_collected = accepted_rooted a_store_is_rooted_at_its_last_manifest
+an_accepted_file_can_be_collected = accepted_rooted
 
 -- what is reached from the last manifests of two stores that may be joined is what was reached in the one or in the other
 pub what_is_joined_is_reached_reached : JoinedIsReached
@@ -84,7 +74,7 @@ what_is_joined_is_reached_approved = all_approved
 
 -- what goes into a new store over two that may be collected is there, and is one
 pub what_is_collected_is_one_some : SomeContentCollects
-what_is_collected_is_one_some = some_collects a_redacted_store_is_read_less
+what_is_collected_is_one_some = some_collects
 
 -- what goes into a new store over two that may be collected is there, and is one
 pub what_is_collected_is_one_once : CollectedContentIsOne
@@ -92,31 +82,27 @@ what_is_collected_is_one_once = content_one
 
 -- a new store over the joined boxes of two stores meets each rule but the verdict on its message and the one on its binding, and asks the new question and then those of the joined chain
 pub a_collected_store_meets_the_rules_meets : CollectedStoreMeets
-a_collected_store_meets_the_rules_meets =
-    collected_meets a_redacted_store_is_read_less a_gathered_store_meets_the_rules_meets
+a_collected_store_meets_the_rules_meets = collected_meets
 
 -- a new store over the joined boxes of two stores meets each rule but the verdict on its message and the one on its binding, and asks the new question and then those of the joined chain
 pub a_collected_store_meets_the_rules_reaches : CollectedStoreReaches
-a_collected_store_meets_the_rules_reaches =
-    collected_reaches a_redacted_store_is_read_less a_gathered_store_meets_the_rules_reaches
+a_collected_store_meets_the_rules_reaches = collected_reaches
 
 -- the new store that collects from two stores meets each rule but the verdict on its message and the one on its binding, whichever the binding is
 pub a_collected_file_meets_the_rules_content : CollectedContentMeets
-a_collected_file_meets_the_rules_content = collected_content_meets a_collected_store_meets_the_rules_meets
+a_collected_file_meets_the_rules_content = collected_content_meets
 
 -- the new store that collects from two stores meets each rule but the verdict on its message and the one on its binding, whichever the binding is
 pub a_collected_file_meets_the_rules_meets : CollectedFileMeets
-a_collected_file_meets_the_rules_meets =
-    collected_place a_place_is_a_split_file
-    (collected_content_meets a_collected_store_meets_the_rules_meets)
+a_collected_file_meets_the_rules_meets = collected_place
 
 -- the new store that collects from two stores meets each rule but the verdict on its message and the one on its binding, whichever the binding is
 pub a_collected_file_meets_the_rules_reaches : CollectedFileReaches
-a_collected_file_meets_the_rules_reaches = file_reaches a_collected_store_meets_the_rules_reaches
+a_collected_file_meets_the_rules_reaches = file_reaches
 
 -- a new store may collect from a media file and another file exactly where the list of what is refused of both is empty
 pub two_files_are_refused_or_collected_collects : UnrefusedPairCollects
-two_files_are_refused_or_collected_collects = pair_collects a_store_is_rooted_at_its_last_manifest
+two_files_are_refused_or_collected_collects = pair_collects
 
 -- a new store may collect from a media file and another file exactly where the list of what is refused of both is empty
 pub two_files_are_refused_or_collected_none : CollectablePairIsUnrefused
@@ -124,12 +110,11 @@ two_files_are_refused_or_collected_none = pair_unrefused
 
 -- of inputs none of which is refused alone there is a new file that collects, whose message fills what is reserved for it, exactly where the list of all that is refused is empty
 pub a_collected_file_is_refused_or_built_built : NothingRefusedIsCollected
-a_collected_file_is_refused_or_built_built =
-    nothing_refused a_store_is_rooted_at_its_last_manifest a_message_fills_its_reserve_or_needs_more
+a_collected_file_is_refused_or_built_built = nothing_refused
 
 -- of inputs none of which is refused alone there is a new file that collects, whose message fills what is reserved for it, exactly where the list of all that is refused is empty
 pub a_collected_file_is_refused_or_built_none : CollectedIsNotRefused
-a_collected_file_is_refused_or_built_none = built_unrefused a_message_fills_its_reserve_or_needs_more
+a_collected_file_is_refused_or_built_none = built_unrefused
 
 -- the file of a new store that collects from two files has the new store, and each rule but the verdict on its message holds of it
 pub each_collected_file_meets_the_rules : EachCollectedFileMeets
@@ -141,7 +126,7 @@ the_length_of_a_collected_store_fits_short = collected_short
 
 -- what goes into a new store that collects from two files is short, so the length of that store is less than 2^64 - 1 where a file is the definition
 pub the_length_of_a_collected_store_fits_fits : CollectedStoresFit
-the_length_of_a_collected_store_fits_fits = collected_fits the_length_of_a_new_store_fits
+the_length_of_a_collected_store_fits_fits = collected_fits
 
 -- some file is built that collects, whatever the hash, where it gives digests and judges approve each question
 pub some_file_is_collected : SomeFileIsCollected
@@ -149,29 +134,11 @@ some_file_is_collected = some_file
 
 -- over two files that are opened as one thing each, and the same other inputs, a plan comes to one thing, and so does a build
 pub a_collected_build_comes_to_one_thing_plan : OneCollectPlan
-a_collected_build_comes_to_one_thing_plan = one_plan (record {
-  definition = each_definition_is_read_one_way_one;
-  item = one_item;
-  refused = each_message_is_accepted_or_refused_for_one_test;
-  fills = a_message_fills_its_reserve_or_needs_more;
-  reading = one_reading_store;
-  left = what_is_left_is_one;
-  place = a_place_is_one;
-  content = what_is_collected_is_one_once;
-})
+a_collected_build_comes_to_one_thing_plan = one_plan
 
 -- over two files that are opened as one thing each, and the same other inputs, a plan comes to one thing, and so does a build
 pub a_collected_build_comes_to_one_thing_made : OneCollectMade
-a_collected_build_comes_to_one_thing_made = one_file (record {
-  definition = each_definition_is_read_one_way_one;
-  item = one_item;
-  refused = each_message_is_accepted_or_refused_for_one_test;
-  fills = a_message_fills_its_reserve_or_needs_more;
-  reading = one_reading_store;
-  left = what_is_left_is_one;
-  place = a_place_is_one;
-  content = what_is_collected_is_one_once;
-})
+a_collected_build_comes_to_one_thing_made = one_file
 
 -- over two files whose checks answer something, and any other inputs, a plan comes to something, and so does a build
 pub each_collected_build_comes_to_something_plan : SomeCollectPlan
@@ -191,19 +158,19 @@ a_collected_build_asks_one_list_made = one_asks
 
 -- over two files whose checks answer something, and any other inputs, a plan asks a list of questions, and so does a build
 pub each_collected_build_asks_a_list_plan : SomeCollectPlanAsks
-each_collected_build_asks_a_list_plan = some_plan_asks each_collected_build_comes_to_something_plan
+each_collected_build_asks_a_list_plan = some_plan_asks
 
 -- over two files whose checks answer something, and any other inputs, a plan asks a list of questions, and so does a build
 pub each_collected_build_asks_a_list_made : SomeCollectAsks
-each_collected_build_asks_a_list_made = some_asks each_collected_build_comes_to_something_made
+each_collected_build_asks_a_list_made = some_asks
 
 -- over two files whose checks answer something, inputs on which no refusal has its condition come to bytes that are to be signed, and to a new file
 pub unrefused_inputs_are_collected_plan : UnrefusedIsCollectPlanned
-unrefused_inputs_are_collected_plan = unrefused_plan each_collected_build_comes_to_something_plan
+unrefused_inputs_are_collected_plan = unrefused_plan
 
 -- over two files whose checks answer something, inputs on which no refusal has its condition come to bytes that are to be signed, and to a new file
 pub unrefused_inputs_are_collected_made : UnrefusedIsCollectMade
-unrefused_inputs_are_collected_made = unrefused_made each_collected_build_comes_to_something_made
+unrefused_inputs_are_collected_made = unrefused_made
 
 -- a file that a build comes to has the new store of its definition, which collects from both files, and meets each rule but the verdict on its message
 pub a_made_collected_file_meets_the_rules : MadeCollectedMeets
@@ -211,7 +178,7 @@ a_made_collected_file_meets_the_rules = made_meets
 
 -- the file of a definition, a message and two files whose new store collects from both is what a build over these comes to, with the range of that store
 pub a_collected_file_is_made : CollectedIsMade
-a_collected_file_is_made = collected_made a_message_fills_its_reserve_or_needs_more
+a_collected_file_is_made = collected_made
 
 -- some build succeeds whose new store collects, whatever the hash, where it gives digests and judges approve each question
 pub some_collected_build_succeeds : SomeCollectSucceeds

@@ -14,13 +14,12 @@ use Rattle.c2_collect_spec.specs.Order.{FilePair, IsFilePair, MediaFile, OtherFi
 use Rattle.c2_collect_spec.specs.Order.{bad_definition, bad_signature, joined_refusals, media_refused, other_refusals, parent_refusals, reserve_refusals}
 use Rattle.c2_collect_spec.specs.Outcomes.{CollectGround, IsCollectMade, IsCollectPlanned, IsDefinitionStage, IsGroundStage, IsJoinedStage, IsMadeOn, IsMadeOver, IsMediaStage}
 use Rattle.c2_new_signature.specs.Message.{IsMessageRead}
-use Rattle.c2_collect_spec.specs.Outcomes.{IsMessageStage, IsNewFile, IsOtherStage, IsPairStage, IsParentStage, IsPlannedOn, IsPlannedOver, SomeCollectMade, SomeCollectPlan}
+use Rattle.c2_collect_spec.specs.Outcomes.{IsMessageStage, IsNewFile, IsOtherStage, IsPairStage, IsParentStage, IsPlannedOn, IsPlannedOver}
 use Rattle.c2_collect_spec.specs.Outcomes.{ground_refusals, ground_signed, pair_of}
-use Rattle.c2_collect_spec.proofs.Order.{none_both}
-use Rattle.c2_lemmas.proofs.Stages.{stage_never, stage_value}
+use Rattle.c2_lemmas.proofs.Stages.{NeverRefuses, comes_out, stage_never, stage_value, then_never, unless_never, value_never}
+use Rattle.c2_lemmas.proofs.Lists.{none_both}
 use Rattle.c2_spec.proofs.Openings.{opening_never}
-use Rattle.c2_collect_spec.proofs.SomeOutcome.{IsMediaPassed, IsOtherPassed, defined_of, media_passed, opened_as, other_passed, pair_passed}
-use Rattle.c2_collect_spec.proofs.Stages.{NeverRefuses, comes_out, then_never, unless_never, value_never}
+use Rattle.c2_collect_spec.proofs.SomeOutcome.{IsMediaPassed, IsOtherPassed, defined_of, media_passed, opened_as, other_passed, pair_passed, some_file, some_plan}
 
 -- ---- both files
 
@@ -126,15 +125,15 @@ made_never hash said media definition message other h =
     (none_both (ground_refusals d g) (reserve_refusals d parts) ground reserve) (λ e k. cc (k.2.2)))))))
 
 -- where nothing is refused, bytes are planned
-pub unrefused_plan : SomeCollectPlan → UnrefusedIsCollectPlanned
-unrefused_plan some hash said media definition other own theirs h =
-    let r = some hash said media definition other own theirs in
+pub unrefused_plan : UnrefusedIsCollectPlanned
+unrefused_plan hash said media definition other own theirs h =
+    let r = some_plan hash said media definition other own theirs in
     comes_out (IsCollectPlanned hash said media definition other) r.0 r.1
     (plan_never hash said media definition other h)
 
 -- where nothing is refused, a new file is made
-pub unrefused_made : SomeCollectMade → UnrefusedIsCollectMade
-unrefused_made some hash said media definition message other own theirs are h =
-    let r = some hash said media definition message other own theirs are in
+pub unrefused_made : UnrefusedIsCollectMade
+unrefused_made hash said media definition message other own theirs are h =
+    let r = some_file hash said media definition message other own theirs are in
     comes_out (IsCollectMade hash said media definition message other) r.0 r.1
     (made_never hash said media definition message other h)

@@ -1,14 +1,6 @@
 -- The file that is built whose new store collects from two files meets all that is said of it.
 use Rattle.c2_collect_spec.proofs.Collecting.{of_either}
-use Rattle.c2_new_content_spec.proofs.ContentLaws.{a_gathered_store_meets_the_rules_reaches}
-use Rattle.c2_collect_spec.proofs.Collecting.{collected_reaches}
-use Rattle.c2_collect_spec.proofs.Filed.{file_reaches}
-use Rattle.c2_new_content_spec.proofs.ContentLaws.{a_gathered_store_meets_the_rules_meets}
-use Rattle.c2_new_file_spec.proofs.ParentLaws.{a_redacted_store_is_read_less}
-use Rattle.c2_collect_spec.proofs.Collecting.{collected_meets}
-use Rattle.c2_collect_spec.proofs.Filed.{collected_content_meets}
-use Rattle.c2_new_content_spec.proofs.SplitLaws.{a_place_is_a_split_file}
-use Rattle.c2_collect_spec.proofs.Filed.{collected_place}
+use Rattle.c2_collect_spec.proofs.Filed.{collected_place, file_reaches}
 use Rattle.c2_new_content_spec.proofs.SplitLaws.{a_base_stays}
 use Rattle.std.proofs.Common.{◌≡◌, ℕ, List, ◌∷◌, length, Some, sym, ap, ◌∙◌, subst}
 use Rattle.c2_base.specs.declared.values.Question.{Question}
@@ -20,16 +12,15 @@ use Rattle.c2_spec.specs.Jumbf.Tree.{Tree, tree_bytes}
 use Rattle.c2_spec.specs.PutIn.{taken_out}
 use Rattle.c2_spec.specs.declared.digest.Alg.{Alg}
 use Rattle.c2_spec.specs.declared.panel.Verdict.{Verdict}
-use Rattle.c2_rules.specs.CheckList.{StoreReading}
+use Rattle.c2_rules.specs.CheckList.{AreApproved, StoreReading}
 use Rattle.c2_pad.specs.Fill.{fill_pairs}
 use Rattle.c2_definition.specs.declared.types.Definition.{Definition}
 use Rattle.c2_new_file_spec.specs.Fresh.{MeetsTheRules}
 use Rattle.c2_new_file_spec.specs.Store.{Content, new_alg, new_claim}
 use Rattle.c2_new_file_spec.specs.Places.{place_binding, place_question, place_start, place_store, put_bytes, range_len}
-use Rattle.c2_collect_spec.specs.Collected.{AreApproved}
 use Rattle.c2_collect_spec.specs.Stores.{IsAcceptedFile}
 use Rattle.c2_collect_spec.specs.Whole.{EachCollectedFileMeets, pair_questions}
-use Rattle.c2_collect_spec.proofs.Approved.{approved_is_valid}
+use Rattle.c2_rules.proofs.Approving.{approved_is_valid}
 
 -- a file that meets the rules is accepted by judges who approve its questions
 meeting_accepted : (hash : Alg → List ℕ → List ℕ) (file : List ℕ) (start len : ℕ) (t : Tree) (qs : List Question)
@@ -60,7 +51,7 @@ each_meets hash d pair parts p file digests b = record {
       of_either hash pair.media.boxes pair.other.boxes pair.media.readings pair.other.readings
       b.collected.can.joins;
   reaches =
-      λ s reads. (file_reaches (collected_reaches a_redacted_store_is_read_less a_gathered_store_meets_the_rules_reaches)) hash d pair.media.boxes pair.other.boxes pair.media.readings pair.other.readings b.content b.message base file p own s digests b.collected b.can b.signed.spelled reads;
+      λ s reads. file_reaches hash d pair.media.boxes pair.other.boxes pair.media.readings pair.other.readings b.content b.message base file p own s digests b.collected b.can b.signed.spelled reads;
   base = subst (λ (f : List ℕ). taken_out (place_start p) len f ≡ base) (sym b.is)
       (a_base_stays (hash (new_alg b.content.definition)) x b.message base b.bytes p (λ text. (digests (new_alg b.content.definition) text).sized) b.can put);
   accepted = meeting_accepted hash file (place_start p) len t (q ∷ pair_questions pair) met;
@@ -90,10 +81,8 @@ each_meets hash d pair parts p file digests b = record {
 
     met : MeetsTheRules hash file (place_start p) len t (q ∷ pair_questions pair)
     met = subst (λ (f : List ℕ). MeetsTheRules hash f (place_start p) len t (q ∷ pair_questions pair)) (sym b.is)
-        (collected_place a_place_is_a_split_file
-        (collected_content_meets (collected_meets a_redacted_store_is_read_less a_gathered_store_meets_the_rules_meets))
-        hash d pair.media.boxes pair.other.boxes pair.media.readings pair.other.readings b.content b.message base b.bytes
-        p own digests b.collected b.can b.signed.spelled put)
+        (collected_place hash d pair.media.boxes pair.other.boxes pair.media.readings pair.other.readings b.content b.message
+        base b.bytes p own digests b.collected b.can b.signed.spelled put)
 
     -- what is signed of a definition, with this protected header and so many bytes for the message
     signed_with : Definition → List ℕ → ℕ → List ℕ

@@ -1,5 +1,7 @@
 -- The inputs of worked files that collect: two definitions without assertions under labels of their own, a JPEG file without a store, a
 -- message, and the file that is built of the first definition and that JPEG file, which judges accept who approve each question.
+use Rattle.c2_new_content_spec.proofs.SplitLaws.{a_file_built_in_its_place_meets_the_rules_fresh}
+use Rattle.c2_new_signature.proofs.TheLaws.{a_message_fills_its_reserve_or_needs_more}
 use Rattle.std.proofs.Common.{◌≡◌, ◌⊎◌, inl, inr, ℕ, ◌+◌, ◌<◌, ◌≤◌, false, unwrap_or, List, [], ◌∷◌, length, Some, None, refl, sym, ap, ◌∙◌, subst, arith, codes, lit<, lit≤}
 use Rattle.std.specs.Prelude.{nat_le, nat_lt}
 use Rattle.std.specs.List.{AllZip}
@@ -26,24 +28,22 @@ use Rattle.c2_spec.specs.declared.digest.Alg.TheVariants.{Sha256}
 use Rattle.c2_spec.specs.declared.panel.Verdict.{Verdict}
 use Rattle.c2_spec.specs.declared.panel.Verdict.TheVariants.{Approved}
 use Rattle.c2_rules.specs.Chains.{label_in}
-use Rattle.c2_rules.specs.CheckList.{StoreReading, questions}
+use Rattle.c2_rules.specs.CheckList.{AreApproved, StoreReading, questions}
 use Rattle.c2_rules.specs.Opened.{IsOpened}
 use Rattle.c2_rules.specs.Readings.{IsReading, Reading}
 use Rattle.c2_pad.specs.Fill.{fill_pairs}
 use Rattle.c2_definition.specs.declared.types.Definition.{Definition}
 use Rattle.c2_new_signature.specs.Message.{AreFew, HasNoPadding, IsAccepted}
 use Rattle.c2_new_signature.specs.Refusals.{reserve_needed}
-use Rattle.c2_new_signature.specs.Signed.{FillsOrNeedsMore, IsSigned, NeedsMore}
+use Rattle.c2_new_signature.specs.Signed.{IsSigned, NeedsMore}
 use Rattle.c2_new_file_spec.specs.Fresh.{GivesDigests, MeetsTheRules, fresh_content}
 use Rattle.c2_new_file_spec.specs.Manifests.{manifest_of}
 use Rattle.c2_new_file_spec.specs.Store.{Content, new_manifest}
 use Rattle.c2_new_file_spec.specs.Written.{CanBeWritten, HasTexts}
 use Rattle.c2_new_file_spec.proofs.ByIndex.{same_manifests}
-use Rattle.c2_new_file_spec.specs.Meeting.{FreshPlaceMeets}
 use Rattle.c2_new_file_spec.specs.Places.{CanPut, IsPlace, Place, in_segments, place_binding, place_file, place_question, place_start, place_store, range_len, store_len}
-use Rattle.c2_collect_spec.specs.Collected.{AreApproved}
 use Rattle.c2_collect_spec.specs.Stores.{IsAcceptedFile}
-use Rattle.c2_collect_spec.proofs.Approved.{approved_is_valid}
+use Rattle.c2_rules.proofs.Approving.{approved_is_valid}
 use Rattle.c2_cbor_spec.proofs.PlainBack.{one_item}
 use Rattle.c2_spec.proofs.OneMessage.{same_message}
 
@@ -256,8 +256,9 @@ unfolding shortest_head
 enough = refl
 
 -- the message fills what is reserved
-pub signed : FillsOrNeedsMore → (filled : List ℕ) × IsSigned parts 64 filled
-signed fills = by (fills.either message parts 64 (record { spelled = spelled; small = lit≤ tt; entries = no_pairs; can = record { map = refl; plain = plain; few = lit≤ tt; no_pad = tt; no_pad2 = tt }; most = lit≤ tt }))
+pub signed : (filled : List ℕ) × IsSigned parts 64 filled
+signed = by (a_message_fills_its_reserve_or_needs_more.either message parts 64
+    (record { spelled = spelled; small = lit≤ tt; entries = no_pairs; can = record { map = refl; plain = plain; few = lit≤ tt; no_pad = tt; no_pad2 = tt }; most = lit≤ tt }))
   where
     by : ((filled : List ℕ) × IsSigned parts 64 filled) ⊎ NeedsMore parts 64
         → (filled : List ℕ) × IsSigned parts 64 filled
@@ -310,12 +311,13 @@ can_put filled e = record {
 }
 
 -- the file meets all rules but verdicts
-first_meets : FreshPlaceMeets → (hash : Alg → List ℕ → List ℕ) → GivesDigests hash → (filled : List ℕ)
+first_meets : (hash : Alg → List ℕ → List ℕ) → GivesDigests hash → (filled : List ℕ)
     → (s : IsSigned parts 64 filled)
     → MeetsTheRules hash (first_file (hash Sha256) filled) (place_start place) (first_len filled) (store (hash Sha256) filled)
     (place_question (hash Sha256) first (length filled) media place (padded_read parts (fill_pairs s.fill)) ∷ [])
-first_meets meets hash digests filled s =
-    meets hash first filled media (packets_bytes (tree_bytes (store (hash Sha256) filled)) 0x0211) place
+first_meets hash digests filled s =
+    a_file_built_in_its_place_meets_the_rules_fresh hash first filled media
+    (packets_bytes (tree_bytes (store (hash Sha256) filled)) 0x0211) place
     (padded_read parts (fill_pairs s.fill)) digests (record { carried = refl; ingredients = refl; redact = refl })
     first_written
     (can_put filled s.filled) s.spelled refl
@@ -348,12 +350,12 @@ one_reading m (r ∷ []) h = record { reading = r; are = refl; same = h.0.same }
 one_reading m (r ∷ q ∷ rs) h = absurd h.1
 
 -- the first file is as the record says
-pub is_first : FreshPlaceMeets → (hash : Alg → List ℕ → List ℕ) (said : Question → Verdict)
+pub is_first : (hash : Alg → List ℕ → List ℕ) (said : Question → Verdict)
     → GivesDigests hash → ((q : Question) → said q ≡ Approved) → (filled : List ℕ) → IsSigned parts 64 filled
     → IsFirst hash said filled
-is_first meets hash said digests all filled s =
+is_first hash said digests all filled s =
     let t : Tree = store (hash Sha256) filled in
-    let m = first_meets meets hash digests filled s in
+    let m = first_meets hash digests filled s in
     let r : StoreReading = m.reading in
     let k : IsOneReading (manifest_of (manifest (hash Sha256) filled)) r.readings =
     one_reading (manifest_of (manifest (hash Sha256) filled)) r.readings

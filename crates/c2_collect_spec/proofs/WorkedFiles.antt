@@ -2,10 +2,6 @@
 -- comes to a new file, so what is said of such files is said of some.
 use Rattle.c2_collect_spec.proofs.Making.{collected_made}
 use Rattle.c2_definition.proofs.TheLaws.{each_definition_is_read_one_way_one}
-use Rattle.c2_new_file_spec.proofs.FileLaws.{a_new_store_has_one_length_in_its_place}
-use Rattle.c2_new_signature.proofs.TheLaws.{a_message_fills_its_reserve_or_needs_more}
-use Rattle.c2_new_content_spec.proofs.SplitLaws.{a_base_stays, a_file_built_in_its_place_meets_the_rules_fresh}
-use Rattle.c2_chain_spec.proofs.ChainLaws.{a_store_is_rooted_at_its_last_manifest}
 use Rattle.std.proofs.Common.{◌≡◌, Bool, true, false, ℕ, List, [], ◌∷◌, ◌++◌, Some, refl, sym, ap, ◌∙◌, subst, codes, option_and_then}
 use Rattle.std.specs.Prelude.{Ok}
 use Rattle.std.specs.List.{AllByRecursion}
@@ -25,14 +21,11 @@ use Rattle.c2_definition.specs.declared.types.NewAssertion.{NewAssertion}
 use Rattle.c2_new_signature.specs.Signed.{IsSigned}
 use Rattle.c2_new_file_spec.specs.Written.{HasTexts}
 use Rattle.c2_new_file_spec.specs.Places.{place_start, range_len}
-use Rattle.c2_collect_spec.specs.Made.{CollectedIsMade, HasTextsIn, SomeCollectSucceeds}
+use Rattle.c2_collect_spec.specs.Made.{HasTextsIn, SomeCollectSucceeds}
 use Rattle.c2_collect_spec.specs.Order.{HasStore}
 use Rattle.c2_collect_spec.specs.Outcomes.{IsCollectMade, NewFile}
-use Rattle.c2_collect_spec.proofs.OneOutcome.{OneDefinition, OneItem}
 use Rattle.c2_collect_spec.proofs.Worked.{IsFirst, accepted_message, defined, first_file, first_len, is_absent, is_first, media, message, parts, place, second_label, second_texts, signed, spelled, store}
-use Rattle.c2_collect_spec.proofs.WorkedPair.{IsSecond, WorkedLaws, alone_file, twice_file}
-use Rattle.c2_cbor_spec.proofs.PlainBack.{one_item}
-use Rattle.c2_rules.proofs.ClaimLemmas.{claim_rules_ask}
+use Rattle.c2_collect_spec.proofs.WorkedPair.{IsSecond, alone_file, twice_file}
 
 -- ---- the definition
 
@@ -88,25 +81,6 @@ texts_in d is =
 
 -- ---- the build
 
--- what laws of this crate and of others say
-pub record SucceedLaws : Type 0 where
-  pub worked : WorkedLaws
-  pub definition : OneDefinition
-  pub item : OneItem
-  pub made : CollectedIsMade
-
--- they hold
-pub succeed_laws : SucceedLaws
-succeed_laws =
-    record {
-      worked =
-          record
-          { fills = a_message_fills_its_reserve_or_needs_more; meets = a_file_built_in_its_place_meets_the_rules_fresh; size = a_new_store_has_one_length_in_its_place; stays = a_base_stays; asks = claim_rules_ask; rooted = a_store_is_rooted_at_its_last_manifest };
-      definition = each_definition_is_read_one_way_one;
-      item = one_item;
-      made = (collected_made a_message_fills_its_reserve_or_needs_more);
-    }
-
 -- What a build comes to over files, the definition and the message among them.
 record IsBuiltFrom (hash : Alg → List ℕ → List ℕ) (said : Question → Verdict) (media other : List ℕ) : Type 0 where
   new : NewFile
@@ -120,7 +94,7 @@ second_made hash said own other k = record {
       record
       { file = k.file; start = place_start place; len = range_len place k.is.content (defined second_label).reserve };
   made =
-      (collected_made a_message_fills_its_reserve_or_needs_more) hash said own definition_file message other
+      collected_made hash said own definition_file message other
       (defined second_label) k.pair parts place
       k.file is_defined accepted_message spelled k.read k.is;
 }
@@ -130,20 +104,20 @@ pub some_succeeds : SomeCollectSucceeds
 some_succeeds stored hash said digests all = by stored
   where
     s : (filled : List ℕ) × IsSigned parts 64 filled
-    s = signed a_message_fills_its_reserve_or_needs_more
+    s = signed
 
     first : List ℕ
     first = first_file (hash Sha256) s.0
 
     k : IsFirst hash said s.0
-    k = is_first a_file_built_in_its_place_meets_the_rules_fresh hash said digests all s.0 s.1
+    k = is_first hash said digests all s.0 s.1
 
     by : (b : Bool)
         → (media : List ℕ) × (definition : List ℕ) × (signature : List ℕ) × (other : List ℕ) × (new : NewFile) × HasStore b media × HasTextsIn definition
         × IsCollectMade hash said media definition signature other (Ok new)
     by false =
-        let b = second_made hash said media first (alone_file succeed_laws.worked hash said digests s.0 s.1 k) in
+        let b = second_made hash said media first (alone_file hash said digests s.0 s.1 k) in
         (media, definition_file, message, first, b.new, is_absent, texts_in, b.made)
     by true =
-        let b = second_made hash said first first (twice_file succeed_laws.worked hash said digests s.0 s.1 k) in
+        let b = second_made hash said first first (twice_file hash said digests s.0 s.1 k) in
         (first, definition_file, message, first, b.new, (place_start place, first_len s.0, store (hash Sha256) s.0, k.accepted.opened), texts_in, b.made)

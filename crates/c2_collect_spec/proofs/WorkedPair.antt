@@ -1,8 +1,6 @@
 -- Worked files that collect: of the JPEG file without a store, and of the first file itself, the other file being the first file.
 use Rattle.c2_new_file_spec.proofs.FileLaws.{a_new_store_has_one_length_in_its_place}
-use Rattle.c2_new_signature.proofs.TheLaws.{a_message_fills_its_reserve_or_needs_more}
-use Rattle.c2_new_content_spec.proofs.SplitLaws.{a_base_stays, a_file_built_in_its_place_meets_the_rules_fresh}
-use Rattle.c2_chain_spec.proofs.ChainLaws.{a_store_is_rooted_at_its_last_manifest}
+use Rattle.c2_new_content_spec.proofs.SplitLaws.{a_base_stays}
 use Rattle.std.proofs.Common.{◌≡◌, ℕ, ◌+◌, ◌<◌, ◌≤◌, Bool, true, false, cond, bytes_eq, List, [], ◌∷◌, ◌++◌, length, replicate, Some, None, refl, sym, ap, ◌∙◌, subst, arith, codes, lit<, slice_get, zero, suc, ◌&&◌, ◌||◌, length-append}
 use Rattle.std.specs.Prelude.{nat_le, nat_lt, not}
 use Rattle.std.specs.List.{AllZip, cons_option}
@@ -26,9 +24,9 @@ use Rattle.c2_rules.specs.Tests.{first_failing}
 use Rattle.c2_rules.proofs.FirstLemmas.{none_fails}
 use Rattle.c2_rules.proofs.ReachLemmas.{place_is}
 use Rattle.c2_chain_spec.specs.Joined.{has_manifest, joined_roots}
-use Rattle.c2_chain_spec.specs.Rooted.{StoreIsRooted, last_roots}
+use Rattle.c2_chain_spec.specs.Rooted.{last_roots}
 use Rattle.c2_definition.specs.declared.types.NewAssertion.{NewAssertion}
-use Rattle.c2_new_signature.specs.Signed.{FillsOrNeedsMore, IsSigned}
+use Rattle.c2_new_signature.specs.Signed.{IsSigned}
 use Rattle.c2_new_file_spec.specs.Built.{no_digest, store_size}
 use Rattle.c2_new_file_spec.specs.Fresh.{GivesDigests}
 use Rattle.c2_new_file_spec.specs.FreshBoxes.{contents_of, item_box, store_box}
@@ -37,41 +35,15 @@ use Rattle.c2_new_file_spec.specs.Store.{Content, NamedManifest, data_binding, n
 use Rattle.c2_new_file_spec.proofs.StoreSize.{store_len}
 use Rattle.c2_new_file_spec.specs.Redacting.{boxes_in}
 use Rattle.c2_new_file_spec.specs.Bases.{IsLeft}
-use Rattle.c2_new_file_spec.specs.Laws.{PlaceSizeIsFixed}
-use Rattle.c2_new_file_spec.specs.Meeting.{BaseStays, FreshPlaceMeets}
 use Rattle.c2_new_file_spec.specs.Places.{CanPut, bound_text, place_file, place_start, place_store, range_len}
 use Rattle.c2_new_file_spec.specs.Places as places
 use Rattle.c2_collect_spec.specs.Collected.{CollectsFrom, IsCollected, IsNamedAt, collected_ingredients, collected_readings, collected_roots}
 use Rattle.c2_collect_spec.specs.Order.{CanCollectPair, FilePair, IsCollectedFile, IsCollectedFrom, IsFilePair, IsValidAnswer, OtherFile, SomeFileIsCollected}
 use Rattle.c2_collect_spec.specs.Sides.{DoNotClash}
 use Rattle.c2_collect_spec.specs.Stores.{IsRootedStore}
-use Rattle.c2_collect_spec.proofs.Approved.{HasQuestionThen}
 use Rattle.c2_collect_spec.proofs.Stores.{accepted_rooted, none_rooted}
 use Rattle.c2_collect_spec.proofs.Worked.{IsFirst, can_put, defined, first, first_file, first_label, first_len, is_absent, is_first, is_place, manifest, media, none_begins, parts, place, second_label, second_written, signed, store}
 use Rattle.c2_lemmas.proofs.Bools.{and_true}
-use Rattle.c2_rules.proofs.ClaimLemmas.{claim_rules_ask}
-
--- ---- what the laws of other crates say
-
-pub record WorkedLaws : Type 0 where
-  pub fills : FillsOrNeedsMore
-  pub meets : FreshPlaceMeets
-  pub size : PlaceSizeIsFixed
-  pub stays : BaseStays
-  pub asks : HasQuestionThen
-  pub rooted : StoreIsRooted
-
--- they hold
-pub worked_laws : WorkedLaws
-worked_laws =
-    record {
-      fills = a_message_fills_its_reserve_or_needs_more;
-      meets = a_file_built_in_its_place_meets_the_rules_fresh;
-      size = a_new_store_has_one_length_in_its_place;
-      stays = a_base_stays;
-      asks = claim_rules_ask;
-      rooted = a_store_is_rooted_at_its_last_manifest;
-    }
 
 -- ---- the manifest that the ingredients name
 
@@ -233,12 +205,12 @@ same_store m n new same =
     )
 
 -- the first manifest is as long as one without digests
-manifest_same : PlaceSizeIsFixed → (hash : Alg → List ℕ → List ℕ) → GivesDigests hash → (filled : List ℕ)
-    → length filled ≡ 64
+manifest_same : (hash : Alg → List ℕ → List ℕ) → GivesDigests hash → (filled : List ℕ) → length filled ≡ 64
     → length (tree_bytes (manifest (hash Sha256) filled)) ≡ length (tree_bytes bare_manifest)
-manifest_same law hash digests filled e =
+manifest_same hash digests filled e =
     let whole : length (tree_bytes (store (hash Sha256) filled)) ≡ places.store_len place first (length filled) =
-    law (hash Sha256) first place (first_len filled) (hash Sha256 (bound_text media place)) filled (λ text. (digests Sha256 text).sized) (digests Sha256 (bound_text media place)).sized in
+    a_new_store_has_one_length_in_its_place (hash Sha256) first place (first_len filled)
+    (hash Sha256 (bound_text media place)) filled (λ text. (digests Sha256 text).sized) (digests Sha256 (bound_text media place)).sized in
     by (manifest (hash Sha256) filled) bare_manifest (whole ∙ ap (places.store_len place first) e)
   where
     by : (m n : Tree) → length (tree_bytes (store_box none m)) ≡ length (tree_bytes (store_box none n))
@@ -264,7 +236,7 @@ alone_can : (hash : Alg → List ℕ → List ℕ) → GivesDigests hash → (fi
     → CanPut (alone (hash Sha256) filled) (length filled) media place
 alone_can hash digests filled e =
     can_put_in (alone (hash Sha256) filled) one_total filled
-    (same_store (manifest (hash Sha256) filled) bare_manifest (bare_new (bare ∷ [])) (manifest_same a_new_store_has_one_length_in_its_place hash digests filled e))
+    (same_store (manifest (hash Sha256) filled) bare_manifest (bare_new (bare ∷ [])) (manifest_same hash digests filled e))
     one_small one_fits e
 
 -- the new store can be put in, over a store that is collected as well
@@ -272,7 +244,7 @@ twice_can : (hash : Alg → List ℕ → List ℕ) → GivesDigests hash → (fi
     → CanPut (twice (hash Sha256) filled) (length filled) media place
 twice_can hash digests filled e =
     can_put_in (twice (hash Sha256) filled) two_total filled
-    (same_store (manifest (hash Sha256) filled) bare_manifest (bare_new (bare ∷ bare ∷ [])) (manifest_same a_new_store_has_one_length_in_its_place hash digests filled e))
+    (same_store (manifest (hash Sha256) filled) bare_manifest (bare_new (bare ∷ bare ∷ [])) (manifest_same hash digests filled e))
     two_small two_fits e
 
 -- ---- the two files
@@ -335,7 +307,7 @@ built_from :
 built_from hash said own other k =
     record { definition = defined second_label; pair = k.pair; read = k.read; parts = parts; place = place; is = k.is }
 
-module _ (l : WorkedLaws) (hash : Alg → List ℕ → List ℕ) (said : Question → Verdict) (digests : GivesDigests hash) (filled : List ℕ)
+module _ (hash : Alg → List ℕ → List ℕ) (said : Question → Verdict) (digests : GivesDigests hash) (filled : List ℕ)
     (s : IsSigned parts 64 filled) (k : IsFirst hash said filled) where
   -- the first store and file
   abbrev t : Tree
@@ -362,7 +334,7 @@ module _ (l : WorkedLaws) (hash : Alg → List ℕ → List ℕ) (said : Questio
   -- the store of the other file can be joined
   rooted : IsRootedStore hash (boxes_in t) (k.own ∷ []) (last_roots (k.own ∷ []))
   rooted = subst (λ (rs : List Reading). IsRootedStore hash (boxes_in t) rs (last_roots rs)) k.one
-      (accepted_rooted l.rooted hash said file (place_start place) (first_len filled) t k.reading k.accepted).0
+      (accepted_rooted hash said file (place_start place) (first_len filled) t k.reading k.accepted).0
 
   -- with the JPEG file
   abbrev alone_pair : FilePair
@@ -416,7 +388,7 @@ module _ (l : WorkedLaws) (hash : Alg → List ℕ → List ℕ) (said : Questio
   left : IsLeft file (place_start place) (first_len filled) media
   left =
       sym
-      (l.stays (hash Sha256) first filled media (packets_bytes (tree_bytes t) 0x0211) place (λ text. (digests Sha256 text).sized) (can_put filled s.filled) refl)
+      (a_base_stays (hash Sha256) first filled media (packets_bytes (tree_bytes t) 0x0211) place (λ text. (digests Sha256 text).sized) (can_put filled s.filled) refl)
 
   -- which is that
   twice_read : IsFilePair hash said file file twice_pair
@@ -462,15 +434,13 @@ module _ (l : WorkedLaws) (hash : Alg → List ℕ → List ℕ) (said : Questio
 -- some file that collects is built
 pub some_file : SomeFileIsCollected
 some_file false hash said digests all =
-    let s = signed a_message_fills_its_reserve_or_needs_more in
-    let k : IsFirst hash said s.0 =
-    is_first a_file_built_in_its_place_meets_the_rules_fresh hash said digests all s.0 s.1 in
-    let b = alone_file worked_laws hash said digests s.0 s.1 k in
+    let s = signed in
+    let k : IsFirst hash said s.0 = is_first hash said digests all s.0 s.1 in
+    let b = alone_file hash said digests s.0 s.1 k in
     (media, first_file (hash Sha256) s.0, b.file, is_absent, built_from hash said media (first_file (hash Sha256) s.0) b)
 some_file true hash said digests all =
-    let s = signed a_message_fills_its_reserve_or_needs_more in
-    let k : IsFirst hash said s.0 =
-    is_first a_file_built_in_its_place_meets_the_rules_fresh hash said digests all s.0 s.1 in
+    let s = signed in
+    let k : IsFirst hash said s.0 = is_first hash said digests all s.0 s.1 in
     let first : List ℕ = first_file (hash Sha256) s.0 in
-    let b = twice_file worked_laws hash said digests s.0 s.1 k in
+    let b = twice_file hash said digests s.0 s.1 k in
     (first, first, b.file, (place_start place, first_len s.0, store (hash Sha256) s.0, k.accepted.opened), built_from hash said first first b)

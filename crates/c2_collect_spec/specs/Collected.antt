@@ -12,9 +12,8 @@ use Rattle.c2_spec.specs.Jumbf.Tree.{Tree, Trees, tree_bytes}
 use Rattle.c2_spec.specs.declared.assertion.Relationship.TheVariants.{ComponentOf, ParentOf}
 use Rattle.c2_spec.specs.declared.digest.Alg.{Alg}
 use Rattle.c2_spec.specs.declared.panel.Verdict.{Verdict}
-use Rattle.c2_spec.specs.declared.panel.Verdict.TheVariants.{Approved}
 use Rattle.c2_rules.specs.Chains.{is_reached}
-use Rattle.c2_rules.specs.CheckList.{questions}
+use Rattle.c2_rules.specs.CheckList.{AreApproved, questions}
 use Rattle.c2_rules.specs.Readings.{AreReadings, Reading}
 use Rattle.c2_chain_spec.specs.Joined.{has_manifest, joined, joined_roots}
 use Rattle.c2_chain_spec.specs.Rooted.{is_reached_from, last_roots}
@@ -157,10 +156,6 @@ CollectedStoreMeets = (hash : Alg → List ℕ → List ℕ) (d : Definition) (o
 -- a question is one of the media's store or of the other
 abbrev pub IsOfEither : List Reading → List Reading → Question → Type 0
 IsOfEither old_rs other_rs q = Contains (questions old_rs) q ⊎ Contains (questions other_rs) q
-
--- judges who say this approve each of these questions
-abbrev pub AreApproved : (Question → Verdict) → List Question → Type 0
-AreApproved said qs = AllByRecursion (λ (q : Question). said q ≡ Approved) qs
 
 -- Each question of what is reached from the roots of the joined chain is a question of the media's store or of the other.
 abbrev pub QuestionsAreOfEither : Type 0

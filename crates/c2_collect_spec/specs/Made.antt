@@ -13,6 +13,7 @@ use Rattle.c2_spec.specs.declared.digest.Alg.{Alg}
 use Rattle.c2_spec.specs.declared.panel.Verdict.{Verdict}
 use Rattle.c2_spec.specs.declared.panel.Verdict.TheVariants.{Approved}
 use Rattle.c2_spec.specs.declared.reason.Reason.{Reason}
+use Rattle.c2_rules.specs.CheckList.{AreApproved}
 use Rattle.c2_rules.specs.Opened.{IsOpened}
 use Rattle.c2_rules.specs.Validated.{AreQuestions, IsAnswer}
 use Rattle.c2_rules.specs.declared.answer.Answer.TheVariants as answers
@@ -27,7 +28,6 @@ use Rattle.c2_new_file_spec.specs.Store.{range_at}
 use Rattle.c2_new_file_spec.specs.Written.{HasTexts}
 use Rattle.c2_new_file_spec.specs.Places.{Place, place_start, range_len}
 use Rattle.c2_new_content_spec.specs.Kept.{KeepsBytes}
-use Rattle.c2_collect_spec.specs.Collected.{AreApproved}
 use Rattle.c2_collect_spec.specs.Order.{FilePair, HasStore, IsCollectedFile, IsFilePair, IsMediaFile, IsOtherFile, MediaFile, OtherFile}
 use Rattle.c2_collect_spec.specs.Order.{joined_refusals, other_refusals, parent_refusals, reserve_refusals}
 use Rattle.c2_collect_spec.specs.Outcomes.{CollectGround, HasCheck, IsCollectMade, IsCollectPlanned, IsGroundStage, NewFile, ground_refusals}

@@ -1,11 +1,12 @@
 -- What the build of a new store that collects from two files comes to over its inputs: the bytes that are to be signed, the new file, or
 -- what is refused first, in the order that `Order` tells; and what judges are asked on the way. No input is looked at before all of those
 -- before it are read and not refused: the media file, the definition file, the signed message, and then the other file.
-use Rattle.std.specs.Prelude.{◌≡◌, ℕ, ◌^◌, ◌<◌, List, [], ◌∷◌, ◌++◌, All, length}
+use Rattle.std.specs.Prelude.{◌≡◌, ℕ, ◌^◌, ◌<◌, List, ◌++◌, All, length}
 use Rattle.std.specs.declared.option.Option.{Option}
 use Rattle.std.specs.declared.option.Option.TheVariants.{Some}
 use Rattle.std.specs.declared.result.Result.{Result}
 use Rattle.std.specs.declared.result.Result.TheVariants.{Ok, Err}
+use Rattle.c2_lemmas.specs.Stages.{AsksThen, Then, Unless}
 use Rattle.c2_base.specs.declared.values.Question.{Question}
 use Rattle.c2_spec.specs.C2pa.Sign1.{SignParts}
 use Rattle.c2_spec.specs.Jumbf.Tree.{Tree, tree_bytes}
@@ -31,24 +32,6 @@ use Rattle.c2_collect_spec.specs.Files.{collected_signed}
 use Rattle.c2_collect_spec.specs.Order.{CollectRefusal, FilePair, IsMediaFile, IsOtherFile, MediaFile, OtherFile}
 use Rattle.c2_collect_spec.specs.Order.{bad_definition, bad_signature, collected_refusals, joined_refusals, media_refused, other_refusals, parent_refusals, reserve_refusals}
 use Rattle.c2_collect_spec.specs.Sides.{IsClash}
-
--- ---- one stage after the other
-
--- what comes after a stage: what was refused stays refused
-abbrev pub After : {A B : Type 0} → (A → Result B CollectRefusal → Type 0) → Result A CollectRefusal → Result B CollectRefusal → Type 0
-After Next (Ok a) r = Next a r
-After Next (Err refusal) r = r ≡ Err refusal
-
--- A stage comes to something, and what comes after it to this.
-pub record Then {A B : Type 0} (First : Result A CollectRefusal → Type 0) (Next : A → Result B CollectRefusal → Type 0) (r : Result B CollectRefusal) : Type 0 where
-  pub first : Result A CollectRefusal
-  pub is_first : First first
-  pub next : After Next first r
-
--- what comes after a list of what is refused: the first of it is answered
-abbrev pub Unless : {A : Type 0} → List CollectRefusal → (Result A CollectRefusal → Type 0) → Result A CollectRefusal → Type 0
-Unless [] Next r = Next r
-Unless (refusal ∷ others) Next r = r ≡ Err refusal
 
 -- ---- the inputs
 
@@ -198,17 +181,6 @@ IsCollectMade hash said media definition message other =
     Then (IsPairStage hash said media other what d) (IsMadeOver hash d parts))))
 
 -- ---- what judges are asked
-
--- nothing is asked behind a stage that refuses
-abbrev pub AskedBehind : {A : Type 0} → Result A CollectRefusal → (A → List Question → Type 0) → List Question → Type 0
-AskedBehind (Ok a) Asks qs = Asks a qs
-AskedBehind (Err refusal) Asks qs = qs ≡ []
-
--- A stage comes to something, and what is asked behind it is this.
-pub record AsksThen {A : Type 0} (First : Result A CollectRefusal → Type 0) (Asks : A → List Question → Type 0) (qs : List Question) : Type 0 where
-  pub first : Result A CollectRefusal
-  pub is_first : First first
-  pub asks : AskedBehind first Asks qs
 
 -- What is asked of both files, where the media is opened so: what the check of its store asks, and then, where no rule of that fails, what
 -- the check of the other file asks.

@@ -7,14 +7,14 @@ use Rattle.c2_spec.specs.Jumbf.Tree.{Tree}
 use Rattle.c2_spec.specs.PutIn.{taken_out}
 use Rattle.c2_spec.specs.declared.digest.Alg.{Alg}
 use Rattle.c2_spec.specs.declared.panel.Verdict.{Verdict}
-use Rattle.c2_rules.specs.CheckList.{StoreReading}
+use Rattle.c2_rules.specs.CheckList.{AreApproved, StoreReading}
 use Rattle.c2_rules.specs.Validated.{IsFileReading}
 use Rattle.c2_definition.specs.declared.types.Definition.{Definition}
 use Rattle.c2_new_file_spec.specs.Fresh.{GivesDigests, MeetsTheRules}
 use Rattle.c2_new_file_spec.specs.Store.{Content, new_alg}
 use Rattle.c2_new_content_spec.specs.Taken.{questions_from}
 use Rattle.c2_new_file_spec.specs.Places.{Place, place_start, place_store, range_len}
-use Rattle.c2_collect_spec.specs.Collected.{AreApproved, IsOfEither, ReachesCollected}
+use Rattle.c2_collect_spec.specs.Collected.{IsOfEither, ReachesCollected}
 use Rattle.c2_collect_spec.specs.Files.{collected_signed}
 use Rattle.c2_collect_spec.specs.Order.{FilePair, IsCollectedFile, pair_readings, pair_roots}
 use Rattle.c2_collect_spec.specs.Stores.{IsAcceptedFile}

@@ -1,4 +1,6 @@
 -- What two files come to, step by step.
+use Rattle.c2_opening.proofs.TheLaws.{one_opening_file}
+use Rattle.c2_compare_spec.proofs.TheLaws.{one_comparison_answer}
 use Rattle.std.proofs.Common.{◌≡◌, ◌⊎◌, inl, inr, ℕ, List, [], Option, Result, Ok, Err, refl, sym, ap, ◌∙◌, subst}
 use Rattle.c2_base.specs.Sink.{HasWrittenPrefix, then_written}
 use Rattle.c2_base.specs.declared.values.Question.{Question}
@@ -22,10 +24,9 @@ use Rattle.c2_base.proofs.Written.{then_nothing}
 
 module _ (hash : Alg → List ℕ → List ℕ) (said : Question → Verdict) (first second : List ℕ) where
   -- two files come to one thing at most
-  abbrev pub OneLaw : Type 0
-  OneLaw =
-      (a b : Compared) (t u : List ℕ) → IsComparison hash said first second a t → IsComparison hash said first second b
-      u → (a ≡ b) × (t ≡ u)
+  one_law : (a b : Compared) (t u : List ℕ) → IsComparison hash said first second a t
+      → IsComparison hash said first second b u → (a ≡ b) × (t ≡ u)
+  one_law = one_comparison_answer hash said first second (one_opening_file first) (one_opening_file second)
 
   -- ---- files that aren't compared
 
@@ -66,19 +67,19 @@ module _ (hash : Alg → List ℕ → List ℕ) (said : Question → Verdict) (f
   -- ---- what they come to, and nothing else
 
   -- what is answered of two accepted files is their outcome
-  pub compared_as : OneLaw → (old new : Option (List ℕ)) (r : Result Compared CompareError)
+  pub compared_as : (old new : Option (List ℕ)) (r : Result Compared CompareError)
       → IsComparedAs hash said first second old new r
       → IsCompared hash said first second old new r
-  compared_as law old new (Ok got) h = record {
+  compared_as old new (Ok got) h = record {
     gives = λ what text is.
-        let one = law got what h.0 text h.1 is in
+        let one = one_law got what h.0 text h.1 is in
         (one.0, h.2 ∙ ap (then_written old) one.1);
     is = (h.0, h.1);
   }
-  compared_as law old new (Err e) h = record { gives = λ what text is. by what text is h; is = tt }
+  compared_as old new (Err e) h = record { gives = λ what text is. by what text is h; is = tt }
     where
       by : (what : Compared) (text : List ℕ) → IsComparison hash said first second what text
           → (new ≡ old) ⊎ ((w : Compared) × (u : List ℕ) × IsComparison hash said first second w u × HasWrittenPrefix old new u)
           → HasWrittenPrefix old new text
       by what text is (inl unchanged) = prefix_none old new text unchanged
-      by what text is (inr w) = subst (HasWrittenPrefix old new) (law w.0 what w.1 text w.2 is).1 w.3
+      by what text is (inr w) = subst (HasWrittenPrefix old new) (one_law w.0 what w.1 text w.2 is).1 w.3

@@ -1,7 +1,7 @@
 -- A media file that is opened once: what its check answers and asks, and what of it is compared.
 use Rattle.c2_read_manifests.proofs.TheLaws.{one_reading_manifests}
 use Rattle.c2_opening.proofs.TheLaws.{one_media_read, one_opening_file}
-use Rattle.c2_validate.proofs.TheLaws.{one_check_answer}
+use Rattle.c2_validate.proofs.TheLaws.{a_file_answers_by_what_it_is_opened_as_asks, one_check_answer}
 use Rattle.c2_compare_spec.proofs.TheLaws.{accepted_is_valid_accepted, accepted_is_valid_valid}
 use Rattle.std.proofs.Common.{◌≡◌, ℕ, false, List, [], Option, Some, Result, refl, sym, ap, ◌∙◌, subst}
 use Rattle.std.specs.Option.{option_map_or}
@@ -18,7 +18,7 @@ use Rattle.c2_rules.specs.Binding.{Binding, binding_value}
 use Rattle.c2_rules.specs.CheckList.{HasBindingOf, StoreReading, active_in, check_asks}
 use Rattle.c2_rules.specs.Opened.{IsOpened}
 use Rattle.c2_rules.specs.Readings.{AreReadings, Reading}
-use Rattle.c2_rules.specs.Validated.{CheckAsks, IsAnswer, IsFileReading, IsOpenedAnswer, OpenedAsks}
+use Rattle.c2_rules.specs.Validated.{CheckAsks, IsFileReading, IsOpenedAnswer, OpenedAsks}
 use Rattle.c2_rules.specs.declared.answer.Answer.{Answer}
 use Rattle.c2_rules.specs.declared.answer.Answer.TheVariants as answer
 use Rattle.c2_rules.specs.declared.answer.Failing.{Failing}
@@ -43,27 +43,6 @@ use Rattle.c2_compare_opened.specs.Sides.{IsCompareSide}
 use Rattle.c2_compare.specs.Accepting.{IsStoreless, IsUnaccepted, IsUnopened}
 use Rattle.c2_compare.specs.declared.accepting.Unaccepted.{Unaccepted}
 use Rattle.c2_compare.specs.declared.accepting.Unaccepted.TheVariants.{Refused, Failed}
-
--- ---- laws
-
--- the check of a file has one answer at most
-abbrev pub OneAnswer : Type 0
-OneAnswer =
-    (hash : Alg → List ℕ → List ℕ) (said : Question → Verdict) (file : List ℕ) (a b : Answer) → IsAnswer hash said file
-    a → IsAnswer hash said file b → a ≡ b
-
--- the check of a file asks what is asked over what the file is opened as
-abbrev pub AsksLaw : Type 0
-AsksLaw =
-    (hash : Alg → List ℕ → List ℕ) (said : Question → Verdict) (file : List ℕ) (what : Opening Tree)
-    (qs : List Question) → IsOpened file what → CheckAsks hash said file qs → OpenedAsks (check_asks hash said) what
-    qs
-
--- an accepted file is valid
-abbrev pub AcceptedLaw : Type 0
-AcceptedLaw =
-    (hash : Alg → List ℕ → List ℕ) (said : Question → Verdict) (file : List ℕ) (s : StoreReading)
-    → (h : IsAccepted hash said file s) → IsAnswer hash said file (answer.Valid (summary_in file s h.opened))
 
 -- ---- a file that is opened as no store
 
@@ -96,11 +75,12 @@ unaccepted_unopened hash said file (Refused a) h =
 unaccepted_unopened hash said file (Failed e) h = tt
 
 -- the check of a file that isn't opened asks nothing
-pub asks_nobody : AsksLaw
-    → (hash : Alg → List ℕ → List ℕ) (said : Question → Verdict) (file : List ℕ) (a : Answer) (qs : List Question)
+pub asks_nobody :
+    (hash : Alg → List ℕ → List ℕ) (said : Question → Verdict) (file : List ℕ) (a : Answer) (qs : List Question)
     → IsUnopened file (Refused a) → CheckAsks hash said file qs → qs ≡ []
-asks_nobody law hash said file a qs h k =
-    storeless_asks (check_asks hash said) h.0 a qs h.2 (law hash said file h.0 qs h.1 k)
+asks_nobody hash said file a qs h k =
+    storeless_asks (check_asks hash said) h.0 a qs h.2
+    (a_file_answers_by_what_it_is_opened_as_asks hash said file h.0 qs h.1 k)
 
 -- there is no store
 pub unopened_none : (file : List ℕ) (o : Opened) (c : Container) → o ≡ opened.NoStore c → IsFound file o

@@ -33,7 +33,7 @@ use Rattle.c2_compare.specs.Accepting.{AsksChecked, IsEnded, IsUnaccepted, IsUno
 use Rattle.c2_compare.specs.Comparing.{AsksCompared, IsNotAccepted, compare_heard}
 use Rattle.c2_compare.specs.declared.accepting.Unaccepted.{Unaccepted}
 use Rattle.c2_compare.specs.declared.accepting.Unaccepted.TheVariants.{Refused, Failed}
-use Rattle.c2_compare.proofs.Files.{AcceptedLaw, AsksLaw, OneAnswer, asks_nobody, not_refused}
+use Rattle.c2_compare.proofs.Files.{asks_nobody, not_refused}
 
 -- ---- questions of two files
 
@@ -138,34 +138,35 @@ unasked_read (Failed e) h = subst (λ (x : ValidateError). IsUnasked (Failed x))
 
 module _ {J : Type 0} {says : J → Question → Verdict} {times faults : J → ℕ} where
   -- nobody is asked of a file that is opened as no store
-  pub hears_unopened : {T : Type 0} → AsksLaw
-      → (hash : Alg → List ℕ → List ℕ) (known : Option (List ℕ)) (v : Vec J Global) (u : Unaccepted) → IsUnasked u
+  pub hears_unopened : {T : Type 0} (hash : Alg → List ℕ → List ℕ) (known : Option (List ℕ)) (v : Vec J Global)
+      (u : Unaccepted) → IsUnasked u
       → ((file : List ℕ) → known ≡ Some file → IsUnopened file u)
       → HearsPanel {T = T} says times faults ended_heard (AsksChecked hash known) v v (Err u)
-  hears_unopened {T} law hash known v (Refused a) quiet is = record {
+  hears_unopened {T} hash known v (Refused a) quiet is = record {
     stays = stays {T = T} (judges_of says times faults v.items) (Err (Refused a));
     len = refl;
     cause = refl;
     asked =
-        λ qs k. asked_none (map says v.items) qs (map times v.items) (asks_nobody law hash (panel_says (map says v.items)) k.file a qs (is k.file k.is_file) k.asks);
+        λ qs k. asked_none (map says v.items) qs (map times v.items) (asks_nobody hash (panel_says (map says v.items)) k.file a qs (is k.file k.is_file) k.asks);
     unasked = λ none. refl;
   }
-  hears_unopened {T} law hash known v (Failed error.ReadFault) quiet is =
+  hears_unopened {T} hash known v (Failed error.ReadFault) quiet is =
       hears_early {T = T} says times faults ended_heard (AsksChecked hash known) v (Failed error.ReadFault) refl
-  hears_unopened {T} law hash known v (Failed error.JudgeFault) quiet is = absurd quiet
-  hears_unopened {T} law hash known v (Failed error.NoMemory) quiet is =
+  hears_unopened {T} hash known v (Failed error.JudgeFault) quiet is = absurd quiet
+  hears_unopened {T} hash known v (Failed error.NoMemory) quiet is =
       hears_early {T = T} says times faults ended_heard (AsksChecked hash known) v (Failed error.NoMemory) refl
 
   -- ---- the comparison ends before it writes
 
   -- at the first file
-  pub hears_first : {T : Type 0} → OneAnswer
-      → (hash : Alg → List ℕ → List ℕ) (first second : Option (List ℕ)) (old new : Vec J Global) (u : Unaccepted) (r : Result Compared CompareError)
+  pub hears_first :
+      {T : Type 0} (hash : Alg → List ℕ → List ℕ) (first second : Option (List ℕ)) (old new : Vec J Global)
+      (u : Unaccepted) (r : Result Compared CompareError)
       → r ≡ ended_as First u
       → ((file : List ℕ) → first ≡ Some file → IsUnaccepted hash (panel_says (map says old.items)) file u)
       → HearsPanel {T = T} says times faults ended_heard (AsksChecked hash first) old new (Err u)
       → HearsPanel says times faults compare_heard (AsksCompared hash first second) old new r
-  hears_first {T} one hash first second old new u r same is h = subst (HearsPanel says times faults compare_heard (AsksCompared hash first second) old new) (sym same) (by u is h)
+  hears_first {T} hash first second old new u r same is h = subst (HearsPanel says times faults compare_heard (AsksCompared hash first second) old new) (sym same) (by u is h)
     where
       by : (u : Unaccepted)
           → ((file : List ℕ) → first ≡ Some file → IsUnaccepted hash (panel_says (map says old.items)) file u)
@@ -234,7 +235,7 @@ module _ {J : Type 0} {says : J → Question → Verdict} {times faults : J → 
       hears_later says times faults ended_heard compare_heard Asks Asks old new x r (unbroken r quiet) (λ qs asks. asks)
       h
 
-  module _ {T : Type 0} (one : OneAnswer) (accepted : AcceptedLaw) (hash : Alg → List ℕ → List ℕ) (first second : Option (List ℕ)) (old between new : Vec J Global) (x : T)
+  module _ {T : Type 0} (hash : Alg → List ℕ → List ℕ) (first second : Option (List ℕ)) (old between new : Vec J Global) (x : T)
       (is : (file : List ℕ) → first ≡ Some file → (s : StoreReading) × IsAccepted hash (panel_says (map says old.items)) file s) (h : HearsPanel {T = T} says times faults ended_heard (AsksChecked hash first) old between (Ok x)) where
     -- what the comparison asks behind the first file's questions is what the second's check asks
     second_asked : (qs : List Question) → (k : AsksCompared hash first second (panel_says (map says old.items)) qs)

@@ -15,7 +15,6 @@ use Rattle.c2_compare_spec.specs.ChainContent.{claim_bytes_of, active_claim, key
 use Rattle.c2_compare_spec.specs.Correspondence.{Correspond}
 use Rattle.c2_compare_spec.specs.Differences.{box_pair, unredacted_pairs, entry_pairs, unredacted_at, all_ingredients, all_unredacted}
 use Rattle.c2_compare_spec.specs.Evidence.{ListPair, do_differ}
-use Rattle.c2_spec.proofs.OneMessage.{OneItem}
 use Rattle.c2_compare_spec.proofs.Facts.{SeenAlike, StoreFacts, IsShown}
 use Rattle.c2_compare_spec.proofs.Links.{BothBoxes, contents_are, one_claim, one_entry, label_first, label_second, counterpart_is, both_boxes, box_shown}
 use Rattle.c2_compare_spec.proofs.Lists.{bool_cases, FoundBelow, found_downward, none_downward}
@@ -23,7 +22,7 @@ use Rattle.c2_compare_spec.proofs.Pairs.{FoundEntry, found_only, none_pair, foun
 use Rattle.c2_compare_spec.proofs.Walk.{forth, back, redacted_alike}
 use Rattle.c2_lemmas.proofs.Options.{one_value}
 
-module _ (law : OneItem) (hash : Alg → List ℕ → List ℕ) (said : Question → Verdict) (rs ss : List Reading)
+module _ (hash : Alg → List ℕ → List ℕ) (said : Question → Verdict) (rs ss : List Reading)
     (f : StoreFacts hash said rs)
     (g : StoreFacts hash said ss) (alike : SeenAlike rs ss) (claims : active_claim rs ≡ active_claim ss)
     (none : find do_differ (all_ingredients rs ss) ≡ None) where
@@ -33,7 +32,7 @@ module _ (law : OneItem) (hash : Alg → List ℕ → List ℕ) (said : Question
   unredacted_are n m w =
       pairs_are (λ place r s. entry_pairs (unredacted_pairs rs place r s) r) rs ss n w.first w.second
       w.first_reached w.first_at
-      (counterpart_is law hash said rs ss f g alike n m w)
+      (counterpart_is hash said rs ss f g alike n m w)
 
   -- the boxes of an entry that isn't redacted are there in both
   kept_boxes : (n m : ℕ) (w : Correspond rs ss n m) (e : Ref) (label : List ℕ)
@@ -41,8 +40,8 @@ module _ (law : OneItem) (hash : Alg → List ℕ → List ℕ) (said : Question
       → entry_label w.first.manifest e ≡ Some label → is_redacted rs n label ≡ false
       → BothBoxes hash w.first w.second e label
   kept_boxes n m w e label listed is kept =
-      both_boxes law hash said rs ss f g alike n m w e label listed is kept
-      (sym (redacted_alike law hash said rs ss f g alike claims none n m w label) ∙ kept)
+      both_boxes hash said rs ss f g alike n m w e label listed is kept
+      (sym (redacted_alike hash said rs ss f g alike claims none n m w label) ∙ kept)
 
   -- the first difference among assertions is real evidence
   pub all_unredacted_real : (p : ListPair) → find do_differ (all_unredacted rs ss) ≡ Some p
@@ -53,7 +52,7 @@ module _ (law : OneItem) (hash : Alg → List ℕ → List ℕ) (said : Question
       let reached =
       found_reached (λ place r s. entry_pairs (unredacted_pairs rs place r s) r) rs ss x.place p
       x.found in
-      let w = forth law hash said rs ss f g alike claims none x.place
+      let w = forth hash said rs ss f g alike claims none x.place
       ((reached_decides rs f.tree.differ x.place).0 reached) in
       let y = found_entry (unredacted_pairs rs x.place w.1.first w.1.second) w.1.first p
       (sym (ap (find do_differ) (unredacted_are x.place w.0 w.1)) ∙ x.found) in
@@ -68,7 +67,7 @@ module _ (law : OneItem) (hash : Alg → List ℕ → List ℕ) (said : Question
       by n m w y false kept e =
           let own = found_only (box_pair w.first w.second y.entry y.label) p e in
           subst (IsShown hash said rs ss) own.0
-          (box_shown law hash said rs ss f g alike n m w y.entry y.label
+          (box_shown hash said rs ss f g alike n m w y.entry y.label
           (kept_boxes n m w y.entry y.label y.lists y.is_label kept) own.1)
 
   -- ---- where these don't differ either
@@ -103,7 +102,7 @@ module _ (law : OneItem) (hash : Alg → List ℕ → List ℕ) (said : Question
     -- a claim of the first chain content is one of the second
     claim_forth : (key bytes : List ℕ) → GivesClaim rs key bytes → GivesClaim ss key bytes
     claim_forth key bytes h =
-        let v = forth law hash said rs ss f g alike claims none h.place
+        let v = forth hash said rs ss f g alike claims none h.place
         ((reached_decides rs f.tree.differ h.place).0 h.has_key.reached) in
         let w = v.1 in
         let own : w.first ≡ h.manifest =
@@ -122,7 +121,7 @@ module _ (law : OneItem) (hash : Alg → List ℕ → List ℕ) (said : Question
     -- a claim of the second chain content is one of the first
     claim_back : (key bytes : List ℕ) → GivesClaim ss key bytes → GivesClaim rs key bytes
     claim_back key bytes h =
-        let v = back law hash said rs ss f g alike claims none h.place
+        let v = back hash said rs ss f g alike claims none h.place
         ((reached_decides ss g.tree.differ h.place).0 h.has_key.reached) in
         let w = v.1 in
         let own : w.second ≡ h.manifest =
@@ -142,7 +141,7 @@ module _ (law : OneItem) (hash : Alg → List ℕ → List ℕ) (said : Question
     box_forth : (key label contents : List ℕ) → GivesBox rs key label contents
         → GivesBox ss key label contents
     box_forth key label contents h =
-        let v = forth law hash said rs ss f g alike claims none h.place
+        let v = forth hash said rs ss f g alike claims none h.place
         ((reached_decides rs f.tree.differ h.place).0 h.has_key.reached) in
         let w = v.1 in
         let own : h.manifest ≡ w.first =
@@ -164,11 +163,11 @@ module _ (law : OneItem) (hash : Alg → List ℕ → List ℕ) (said : Question
             is = sym (one_key h.place v.0 w) ∙ ap (key_at rs h.place) (sym own) ∙ h.has_key.is;
           };
           entry = h.entry;
-          lists = one_entry w.first w.second h.entry (one_claim law hash said rs ss f g alike h.place v.0 w)
+          lists = one_entry w.first w.second h.entry (one_claim hash said rs ss f g alike h.place v.0 w)
               listed;
-          is_label = label_second law hash said rs ss f g alike h.place v.0 w h.entry label listed is_label;
+          is_label = label_second hash said rs ss f g alike h.place v.0 w h.entry label listed is_label;
           unredacted =
-              sym (redacted_alike law hash said rs ss f g alike claims none h.place v.0 w label)
+              sym (redacted_alike hash said rs ss f g alike claims none h.place v.0 w label)
               ∙ h.unredacted;
           box = b.right;
           has_box = b.right_is;
@@ -179,7 +178,7 @@ module _ (law : OneItem) (hash : Alg → List ℕ → List ℕ) (said : Question
     -- a box of the second chain content is one of the first
     box_back : (key label contents : List ℕ) → GivesBox ss key label contents → GivesBox rs key label contents
     box_back key label contents h =
-        let v = back law hash said rs ss f g alike claims none h.place
+        let v = back hash said rs ss f g alike claims none h.place
         ((reached_decides ss g.tree.differ h.place).0 h.has_key.reached) in
         let w = v.1 in
         let own : h.manifest ≡ w.second =
@@ -189,12 +188,12 @@ module _ (law : OneItem) (hash : Alg → List ℕ → List ℕ) (said : Question
         let is_label' : entry_label w.second.manifest h.entry ≡ Some label =
         ap (λ (r : Reading). entry_label r.manifest h.entry) (sym own) ∙ h.is_label in
         let listed =
-        one_entry w.second w.first h.entry (sym (one_claim law hash said rs ss f g alike v.0 h.place w))
+        one_entry w.second w.first h.entry (sym (one_claim hash said rs ss f g alike v.0 h.place w))
         listed' in
         let is_label =
-        label_first law hash said rs ss f g alike v.0 h.place w h.entry label listed' is_label' in
+        label_first hash said rs ss f g alike v.0 h.place w h.entry label listed' is_label' in
         let kept : is_redacted rs v.0 label ≡ false =
-        redacted_alike law hash said rs ss f g alike claims none v.0 h.place w label ∙ h.unredacted in
+        redacted_alike hash said rs ss f g alike claims none v.0 h.place w label ∙ h.unredacted in
         let found : box_with w.second label ≡ Some h.box =
         ap (λ (r : Reading). box_with r label) (sym own) ∙ h.has_box in
         let b = kept_boxes v.0 h.place w h.entry label listed is_label kept in

@@ -25,7 +25,7 @@ use Rattle.c2_compare_spec.proofs.Facts.{SeenAlike, BindingFacts, FileFacts}
 use Rattle.c2_compare_spec.proofs.Links.{binding_stays, stays, one_alg, one_claim, label_second, one_entry, BothBoxes, both_boxes, box_same}
 use Rattle.c2_compare_spec.proofs.Walk.{root}
 use Rattle.c2_compare_spec.proofs.Contents.{kept_equal}
-use Rattle.c2_cbor_spec.proofs.PlainBack.{one_item as one_item_law, same_item}
+use Rattle.c2_cbor_spec.proofs.PlainBack.{same_item}
 use Rattle.c2_lemmas.proofs.Options.{one_value}
 
 -- The covered texts of both files have one digest, by a known algorithm.
@@ -70,7 +70,7 @@ covered_alike hash said s t f g alike claims none same = record {
     ss = t.readings
 
     w : Correspond s.readings t.readings (length s.readings - 1) (length t.readings - 1)
-    w = root one_item_law hash said rs ss f.store g.store alike claims
+    w = root hash said rs ss f.store g.store alike claims
 
     a : BindingFacts hash s w.first
     a =
@@ -87,11 +87,11 @@ covered_alike hash said s t f g alike claims none same = record {
     -- the second manifest lists the same label
     listed : Contains (entries_in w.second) a.entry
     listed = one_entry w.first w.second a.entry
-        (one_claim one_item_law hash said rs ss f.store g.store alike (length rs - 1) (length ss - 1) w) a.lists
+        (one_claim hash said rs ss f.store g.store alike (length rs - 1) (length ss - 1) w) a.lists
 
     is_label : entry_label w.second.manifest a.entry ≡ Some a.label
     is_label =
-        label_second one_item_law hash said rs ss f.store g.store alike (length rs - 1) (length ss - 1) w a.entry
+        label_second hash said rs ss f.store g.store alike (length rs - 1) (length ss - 1) w a.entry
         a.label a.lists a.is_label
 
     label : a.label ≡ b.label
@@ -107,14 +107,14 @@ covered_alike hash said s t f g alike claims none same = record {
         stays hash said ss g.store (length ss - 1) a.label (binding_stays (label_kind a.label) a.kind)
 
     boxes : BothBoxes hash w.first w.second a.entry a.label
-    boxes = both_boxes one_item_law hash said rs ss f.store g.store alike (length rs - 1) (length ss - 1) w a.entry
+    boxes = both_boxes hash said rs ss f.store g.store alike (length rs - 1) (length ss - 1) w a.entry
         a.label a.lists a.is_label stays_first stays_second
 
     equal : boxes.left.boxed ≡ boxes.right.boxed
     equal =
-        (box_same one_item_law hash said rs ss f.store g.store alike (length rs - 1) (length ss - 1) w a.entry a.label
+        (box_same hash said rs ss f.store g.store alike (length rs - 1) (length ss - 1) w a.entry a.label
         boxes
-        (kept_equal one_item_law hash said rs ss f.store g.store alike claims none same (length rs - 1) (length ss - 1)
+        (kept_equal hash said rs ss f.store g.store alike claims none same (length rs - 1) (length ss - 1)
         w a.entry a.label a.lists a.is_label stays_first)).0
 
     left : boxes.left ≡ a.box
@@ -146,4 +146,4 @@ covered_alike hash said s t f g alike claims none same = record {
         one_value (alg_named (alg_in w.first a.value.alg)) a.alg b.alg a.known
         (ap (λ z. alg_named (alg_in w.first z)) values.0
         ∙ ap alg_named (one_alg w.first w.second b.value.alg
-        (one_claim one_item_law hash said rs ss f.store g.store alike (length rs - 1) (length ss - 1) w)) ∙ b.known)
+        (one_claim hash said rs ss f.store g.store alike (length rs - 1) (length ss - 1) w)) ∙ b.known)

@@ -18,7 +18,6 @@ use Rattle.c2_compare_spec.specs.EvidenceText.{evidence_text}
 use Rattle.c2_compare_spec.specs.declared.compared.Compared.{Compared}
 use Rattle.c2_compare_spec.specs.declared.compared.Compared.TheVariants.{NotAccepted, DifferentClaims, Evidence, Same}
 use Rattle.c2_compare_spec.specs.declared.compared.Side.TheVariants.{First, Second}
-use Rattle.c2_spec.proofs.OneMessage.{OneItem}
 use Rattle.c2_compare_spec.proofs.Answers.{valid_accepted}
 use Rattle.c2_compare_spec.proofs.Decided.{test_decides}
 use Rattle.c2_compare_spec.proofs.Files.{facts, difference_is_found}
@@ -48,7 +47,7 @@ options_equal (Some a) (Some b) =
       | inr other ↦ inr (λ e. other (same_Some a b e))
     ]
 
-module _ (law : OneItem) (hash : Alg → List ℕ → List ℕ) (said : Question → Verdict)
+module _ (hash : Alg → List ℕ → List ℕ) (said : Question → Verdict)
     (first second : List ℕ) where
   -- stores of accepted files are the same or aren't
   same_or_not : (s t : StoreReading) → IsAccepted hash said first s → IsAccepted hash said second t
@@ -95,7 +94,7 @@ module _ (law : OneItem) (hash : Alg → List ℕ → List ℕ) (said : Question
         (record { store = s; other = t; one_claim = o; same = same; is_summary = refl }, refl),
       )
       of_one_claim s t o (inr differ) =
-          let d = difference_is_found law hash said first second s t o differ in (
+          let d = difference_is_found hash said first second s t o differ in (
             Evidence (evidence_kind d.0.bound_by),
             evidence_text d.0,
             record {

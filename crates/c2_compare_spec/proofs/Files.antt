@@ -16,7 +16,6 @@ use Rattle.c2_compare_spec.specs.Differences.{ingredients_at, all_ingredients, a
 use Rattle.c2_compare_spec.specs.Evidence.{ListPair, do_differ, IsReal}
 use Rattle.c2_compare_spec.specs.Lists.{IsReachedAt, IsListOf}
 use Rattle.c2_compare_spec.specs.Lists.IsListOf.{in_store}
-use Rattle.c2_spec.proofs.OneMessage.{OneItem}
 use Rattle.c2_compare_spec.proofs.Alike.{same_claim}
 use Rattle.c2_compare_spec.proofs.Contents.{all_unredacted_real, same_content}
 use Rattle.c2_compare_spec.proofs.Covered.{covered_alike}
@@ -67,7 +66,7 @@ accepted_claims hash said first second s t h k n m r q at there e =
 
 -- ---- the laws
 
-module _ (law : OneItem) (hash : Alg → List ℕ → List ℕ) (said : Question → Verdict) (first second : List ℕ)
+module _ (hash : Alg → List ℕ → List ℕ) (said : Question → Verdict) (first second : List ℕ)
     (s t : StoreReading)
     (h : HaveOneClaim hash said first second s t) where
   -- the facts of the first file
@@ -86,39 +85,39 @@ module _ (law : OneItem) (hash : Alg → List ℕ → List ℕ) (said : Question
   pub step_of : (n m : ℕ) → Correspond s.readings t.readings n m
       → find do_differ (ingredients_at s.readings t.readings n) ≡ None → (j : ℕ) → IsChild s.readings n j
       → (i : ℕ) × Correspond s.readings t.readings j i × IsChild t.readings m i
-  step_of = step law hash said s.readings t.readings own.store other.store both
+  step_of = step hash said s.readings t.readings own.store other.store both
 
   -- a child in the second file corresponds to one in the first
   pub step_back_of : (n m : ℕ) → Correspond s.readings t.readings n m
       → find do_differ (ingredients_at s.readings t.readings n) ≡ None → (i : ℕ) → IsChild t.readings m i
       → (j : ℕ) × Correspond s.readings t.readings j i × IsChild s.readings n j
-  step_back_of = step_back law hash said s.readings t.readings own.store other.store both
+  step_back_of = step_back hash said s.readings t.readings own.store other.store both
 
   -- a difference of ingredients is real
   pub ingredients_real_of : (n m : ℕ) → Correspond s.readings t.readings n m → (p : ListPair)
       → find do_differ (ingredients_at s.readings t.readings n) ≡ Some p → IsReal hash said p
   ingredients_real_of n m w p found =
-      (ingredients_real law hash said s.readings t.readings own.store other.store both n m w p found).real
+      (ingredients_real hash said s.readings t.readings own.store other.store both n m w p found).real
 
   -- the active manifests correspond
   pub root_of : Correspond s.readings t.readings (length s.readings - 1) (length t.readings - 1)
-  root_of = root law hash said s.readings t.readings own.store other.store both h.claims
+  root_of = root hash said s.readings t.readings own.store other.store both h.claims
 
   -- all manifests that are reached in the first file correspond to some of the second
   pub forth_of : find do_differ (all_ingredients s.readings t.readings) ≡ None → (n : ℕ) → Reached s.readings n
       → (m : ℕ) × Correspond s.readings t.readings n m
-  forth_of = forth law hash said s.readings t.readings own.store other.store both h.claims
+  forth_of = forth hash said s.readings t.readings own.store other.store both h.claims
 
   -- all manifests that are reached in the second file correspond to some of the first
   pub back_of : find do_differ (all_ingredients s.readings t.readings) ≡ None → (m : ℕ) → Reached t.readings m
       → (n : ℕ) × Correspond s.readings t.readings n m
-  back_of = back law hash said s.readings t.readings own.store other.store both h.claims
+  back_of = back hash said s.readings t.readings own.store other.store both h.claims
 
   -- with the same redactions
   pub redacted_of : find do_differ (all_ingredients s.readings t.readings) ≡ None → (n m : ℕ)
       → Correspond s.readings t.readings n m → (label : List ℕ)
       → is_redacted s.readings n label ≡ is_redacted t.readings m label
-  redacted_of = redacted_alike law hash said s.readings t.readings own.store other.store both h.claims
+  redacted_of = redacted_alike hash said s.readings t.readings own.store other.store both h.claims
 
   -- The first difference is real evidence, and its lists are lists of both files.
   record IsFirst (p : ListPair) : Type 0 where
@@ -136,14 +135,14 @@ module _ (law : OneItem) (hash : Alg → List ℕ → List ℕ) (said : Question
       elim (found_append do_differ (all_ingredients s.readings t.readings)
       (all_unredacted s.readings t.readings ++ covered_pair s t ∷ []) p found) [
         | inl leads ↦
-            shown p (all_ingredients_real law hash said s.readings t.readings own.store other.store both h.claims
+            shown p (all_ingredients_real hash said s.readings t.readings own.store other.store both h.claims
             p leads)
         | inr rest ↦ elim (found_append do_differ (all_unredacted s.readings t.readings)
             (covered_pair s t ∷ []) p
             rest.1) [
               | inl kept ↦
                   shown p
-                  (all_unredacted_real law hash said s.readings t.readings own.store other.store both h.claims
+                  (all_unredacted_real hash said s.readings t.readings own.store other.store both h.claims
                   rest.0 p
                   kept)
               | inr last ↦
@@ -183,7 +182,7 @@ module _ (law : OneItem) (hash : Alg → List ℕ → List ℕ) (said : Question
       none_append do_differ (all_unredacted s.readings t.readings) (covered_pair s t ∷ []) leads.1 in
       record {
         content =
-            same_content law hash said s.readings t.readings own.store other.store both h.claims leads.0
+            same_content hash said s.readings t.readings own.store other.store both h.claims leads.0
             rest.0;
         covered = (none_pair (covered_pair s t) [] rest.1).0;
       }

@@ -30,7 +30,8 @@ use Rattle.c2_compare_spec.specs.Evidence.{ListPair, do_differ, IsReal}
 use Rattle.c2_compare_spec.specs.Lists.{IsReachedAt, IsListIn}
 use Rattle.c2_compare_spec.specs.Lists.IsListIn.{of_box, of_signature, of_claim, of_manifest}
 use Rattle.c2_compare_spec.proofs.Alike.{claims_alike, box_reads, ingredients_alike, one_label}
-use Rattle.c2_spec.proofs.OneMessage.{OneItem, same_message}
+use Rattle.c2_spec.proofs.OneMessage.{same_message}
+use Rattle.c2_cbor_spec.proofs.PlainBack.{one_item}
 use Rattle.c2_compare_spec.proofs.Facts.{SeenAlike, IsApproved, HasBox, is_unredactable, BySignature, ByContents, Binds, NamedFact, StoreFacts, IsShown}
 use Rattle.c2_compare_spec.proofs.Lists.{bool_cases, find_says, find_only, in_front}
 use Rattle.c2_compare_spec.proofs.Pairs.{found_pair, found_only, none_pair}
@@ -161,7 +162,7 @@ one_entry r s e claim listed = subst (λ c. Contains (entries_of (value_in c)) e
 
 -- ---- two stores
 
-module _ (law : OneItem) (hash : Alg → List ℕ → List ℕ) (said : Question → Verdict) (rs ss : List Reading)
+module _ (hash : Alg → List ℕ → List ℕ) (said : Question → Verdict) (rs ss : List Reading)
     (f : StoreFacts hash said rs)
     (g : StoreFacts hash said ss) (alike : SeenAlike rs ss) where
   -- corresponding manifests have one claim
@@ -425,7 +426,7 @@ module _ (law : OneItem) (hash : Alg → List ℕ → List ℕ) (said : Question
       let item : p.item ≡ q.item =
       one_value p.box.item p.item q.item p.has_item (ap (λ (z : Superbox). z.item) box ∙ q.has_item) in
       let parts : p.parts ≡ q.parts =
-      same_message law p.item p.parts q.parts p.is_message
+      same_message one_item p.item p.parts q.parts p.is_message
       (subst (λ z. SpellsMessage z q.parts) (sym item) q.is_message) in
       record {
         item = p.item;

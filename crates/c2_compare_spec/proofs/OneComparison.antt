@@ -19,12 +19,11 @@ use Rattle.c2_compare_spec.specs.declared.compared.Compared.{Compared}
 use Rattle.c2_compare_spec.specs.declared.compared.Compared.TheVariants.{NotAccepted, DifferentClaims, Evidence, Same}
 use Rattle.c2_compare_spec.specs.declared.compared.EvidenceKind.{EvidenceKind}
 use Rattle.c2_compare_spec.specs.declared.compared.Side.TheVariants.{First, Second}
-use Rattle.c2_spec.proofs.OneMessage.{OneItem}
 use Rattle.c2_compare_spec.proofs.Answers.{accepted_valid}
 use Rattle.c2_compare_spec.proofs.OneStore.{one_opened_as, one_answer, one_asks}
 use Rattle.c2_lemmas.proofs.Options.{one_value}
 
-module _ (law : OneItem) (hash : Alg → List ℕ → List ℕ) (said : Question → Verdict) where
+module _ (hash : Alg → List ℕ → List ℕ) (said : Question → Verdict) where
   -- an accepted file is read in one way
   one_accepted : (file : List ℕ) → IsOpenedOnce file → (s t : StoreReading) → IsAccepted hash said file s
       → IsAccepted hash said file t → s ≡ t
@@ -50,15 +49,15 @@ module _ (law : OneItem) (hash : Alg → List ℕ → List ℕ) (said : Question
       (accepted_valid hash said file s h) in
       absurd (let bad = sym refused ∙ ap is_valid one in cc (bad))
 
-module _ (law : OneItem) (hash : Alg → List ℕ → List ℕ) (said : Question → Verdict) (first second : List ℕ)
+module _ (hash : Alg → List ℕ → List ℕ) (said : Question → Verdict) (first second : List ℕ)
     (once : IsOpenedOnce first) (twice : IsOpenedOnce second) where
   -- the readings of both files are one
   first_one : (s t : StoreReading) → IsAccepted hash said first s → IsAccepted hash said first t → s ≡ t
-  first_one s t h k = one_accepted law hash said first once s t h k
+  first_one s t h k = one_accepted hash said first once s t h k
 
   -- the readings of the second file are one
   second_one : (s t : StoreReading) → IsAccepted hash said second s → IsAccepted hash said second t → s ≡ t
-  second_one s t h k = one_accepted law hash said second twice s t h k
+  second_one s t h k = one_accepted hash said second twice s t h k
 
   -- claims that differ aren't equal
   claims_apart : {P : Type 0} (s t s' t' : StoreReading) → s ≡ s' → t ≡ t'
@@ -116,7 +115,7 @@ module _ (law : OneItem) (hash : Alg → List ℕ → List ℕ) (said : Question
   -- the summary is one
   same_summary : (x y : Summary) → IsSame hash said first second x → IsSame hash said first second y → x ≡ y
   same_summary x y a b =
-      a.is_summary ∙ one_summary law hash said first once a.store b.store a.one_claim.first_accepted.opened
+      a.is_summary ∙ one_summary hash said first once a.store b.store a.one_claim.first_accepted.opened
       b.one_claim.first_accepted.opened ∙ sym b.is_summary
 
   -- two files come to one answer and one text
@@ -128,46 +127,46 @@ module _ (law : OneItem) (hash : Alg → List ℕ → List ℕ) (said : Question
         ∙ sym q.1,
   )
   one_comparison (NotAccepted First a) (NotAccepted Second b) t u p q =
-      never_both law hash said first once q.0.store a q.0.accepted p.0.is_answer p.0.invalid
+      never_both hash said first once q.0.store a q.0.accepted p.0.is_answer p.0.invalid
   one_comparison (NotAccepted First a) DifferentClaims t u p q =
-      never_both law hash said first once q.0.store a q.0.first_accepted p.0.is_answer p.0.invalid
+      never_both hash said first once q.0.store a q.0.first_accepted p.0.is_answer p.0.invalid
   one_comparison (NotAccepted First a) (Evidence k) t u p q =
-      never_both law hash said first once q.store a q.one_claim.first_accepted p.0.is_answer p.0.invalid
+      never_both hash said first once q.store a q.one_claim.first_accepted p.0.is_answer p.0.invalid
   one_comparison (NotAccepted First a) (Same x) t u p q =
-      never_both law hash said first once q.0.store a q.0.one_claim.first_accepted p.0.is_answer p.0.invalid
+      never_both hash said first once q.0.store a q.0.one_claim.first_accepted p.0.is_answer p.0.invalid
   one_comparison (NotAccepted Second a) (NotAccepted First b) t u p q =
-      never_both law hash said first once p.0.store b p.0.accepted q.0.is_answer q.0.invalid
+      never_both hash said first once p.0.store b p.0.accepted q.0.is_answer q.0.invalid
   one_comparison (NotAccepted Second a) (NotAccepted Second b) t u p q = (
     ap (NotAccepted Second) (one_answer hash said second twice a b p.0.is_answer q.0.is_answer),
     p.1
         ∙ sym q.1,
   )
   one_comparison (NotAccepted Second a) DifferentClaims t u p q =
-      never_both law hash said second twice q.0.other a q.0.second_accepted p.0.is_answer p.0.invalid
+      never_both hash said second twice q.0.other a q.0.second_accepted p.0.is_answer p.0.invalid
   one_comparison (NotAccepted Second a) (Evidence k) t u p q =
-      never_both law hash said second twice q.other a q.one_claim.second_accepted p.0.is_answer p.0.invalid
+      never_both hash said second twice q.other a q.one_claim.second_accepted p.0.is_answer p.0.invalid
   one_comparison (NotAccepted Second a) (Same x) t u p q =
-      never_both law hash said second twice q.0.other a q.0.one_claim.second_accepted p.0.is_answer
+      never_both hash said second twice q.0.other a q.0.one_claim.second_accepted p.0.is_answer
       p.0.invalid
   one_comparison DifferentClaims (NotAccepted First b) t u p q =
-      never_both law hash said first once p.0.store b p.0.first_accepted q.0.is_answer q.0.invalid
+      never_both hash said first once p.0.store b p.0.first_accepted q.0.is_answer q.0.invalid
   one_comparison DifferentClaims (NotAccepted Second b) t u p q =
-      never_both law hash said second twice p.0.other b p.0.second_accepted q.0.is_answer q.0.invalid
+      never_both hash said second twice p.0.other b p.0.second_accepted q.0.is_answer q.0.invalid
   one_comparison DifferentClaims DifferentClaims t u p q = (refl, p.1 ∙ sym q.1)
   one_comparison DifferentClaims (Evidence k) t u p q = claims_or_evidence k u p.0 q
   one_comparison DifferentClaims (Same x) t u p q = claims_or_same x p.0 q.0
   one_comparison (Evidence k) (NotAccepted First b) t u p q =
-      never_both law hash said first once p.store b p.one_claim.first_accepted q.0.is_answer q.0.invalid
+      never_both hash said first once p.store b p.one_claim.first_accepted q.0.is_answer q.0.invalid
   one_comparison (Evidence k) (NotAccepted Second b) t u p q =
-      never_both law hash said second twice p.other b p.one_claim.second_accepted q.0.is_answer q.0.invalid
+      never_both hash said second twice p.other b p.one_claim.second_accepted q.0.is_answer q.0.invalid
   one_comparison (Evidence k) DifferentClaims t u p q = claims_or_evidence k t q.0 p
   one_comparison (Evidence k) (Evidence l) t u p q = let e =
       one_evidence k l t u p q in (ap Evidence e.0, e.1)
   one_comparison (Evidence k) (Same x) t u p q = evidence_or_same k t x p q.0
   one_comparison (Same x) (NotAccepted First b) t u p q =
-      never_both law hash said first once p.0.store b p.0.one_claim.first_accepted q.0.is_answer q.0.invalid
+      never_both hash said first once p.0.store b p.0.one_claim.first_accepted q.0.is_answer q.0.invalid
   one_comparison (Same x) (NotAccepted Second b) t u p q =
-      never_both law hash said second twice p.0.other b p.0.one_claim.second_accepted q.0.is_answer
+      never_both hash said second twice p.0.other b p.0.one_claim.second_accepted q.0.is_answer
       q.0.invalid
   one_comparison (Same x) DifferentClaims t u p q = claims_or_same x q.0 p.0
   one_comparison (Same x) (Evidence k) t u p q = evidence_or_same k u x q p.0

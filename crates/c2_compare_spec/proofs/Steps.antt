@@ -16,7 +16,6 @@ use Rattle.c2_rules.specs.declared.parsed.Parsed.TheVariants.{NoItem}
 use Rattle.c2_compare_spec.specs.Correspondence.{Correspond}
 use Rattle.c2_compare_spec.specs.Differences.{other_named, box_pair, target_pairs, label_pairs, named_pairs, ingredient_with, ingredient_pairs, entry_pairs, ingredients_at}
 use Rattle.c2_compare_spec.specs.Evidence.{ListPair, do_differ}
-use Rattle.c2_spec.proofs.OneMessage.{OneItem}
 use Rattle.c2_compare_spec.proofs.Alike.{box_reads}
 use Rattle.c2_compare_spec.proofs.Facts.{SeenAlike, StoreFacts, IsShown}
 use Rattle.c2_compare_spec.proofs.Links.{ingredient_stays, box_says, ingredient_is, stays, BothBoxes, one_claim, one_entry, label_first, counterpart_is, both_boxes, box_shown, box_same, Targets, targets, targets_correspond, target_shown, target_same}
@@ -74,7 +73,7 @@ entered hash said rs f n r at reached b i listed is =
       kind = ap is_ingredient_kind (sym (kind_is x.label)) ∙ ap is_ingredient_label (sym x.labelled) ∙ kind;
     }
 
-module _ (law : OneItem) (hash : Alg → List ℕ → List ℕ) (said : Question → Verdict) (rs ss : List Reading)
+module _ (hash : Alg → List ℕ → List ℕ) (said : Question → Verdict) (rs ss : List Reading)
     (f : StoreFacts hash said rs)
     (g : StoreFacts hash said ss) (alike : SeenAlike rs ss) where
   -- ---- one entry
@@ -86,7 +85,7 @@ module _ (law : OneItem) (hash : Alg → List ℕ → List ℕ) (said : Question
       → BothBoxes hash w.first w.second e label
   ingredient_boxes n m w e label listed is kind =
       let kept = ingredient_stays (label_kind label) kind in
-      both_boxes law hash said rs ss f g alike n m w e label listed is (stays hash said rs f n label kept)
+      both_boxes hash said rs ss f g alike n m w e label listed is (stays hash said rs f n label kept)
       (stays hash said ss g m label kept)
 
   -- Where its boxes are equal, both read as one ingredient.
@@ -105,7 +104,7 @@ module _ (law : OneItem) (hash : Alg → List ℕ → List ℕ) (said : Question
       → (box_pair w.first w.second e label).left ≡ (box_pair w.first w.second e label).right
       → OneIngredient n m w e label h
   one_ingredient n m w e label h kind same =
-      let equal = box_same law hash said rs ss f g alike n m w e label h same in
+      let equal = box_same hash said rs ss f g alike n m w e label h same in
       let b = box_says w.first label h.left h.left_is in
       let x = (f.manifests n w.first w.first_at w.first_reached).ingredients h.left b.0 label b.1 kind in
       record {
@@ -117,7 +116,7 @@ module _ (law : OneItem) (hash : Alg → List ℕ → List ℕ) (said : Question
 
   -- the pairs of what is named are those of the two manifests
   label_pairs_are : (n m : ℕ) (w : Correspond rs ss n m) (i : Ingredient) (name : List ℕ)
-      (c : Targets law hash said rs ss f g alike n m w i name)
+      (c : Targets hash said rs ss f g alike n m w i name)
       → label_pairs rs ss w.first i (Some name) ≡ target_pairs w.first i i.signature name (Some c.first.child)
       (Some c.second.child)
   label_pairs_are n m w i name c =
@@ -137,7 +136,7 @@ module _ (law : OneItem) (hash : Alg → List ℕ → List ℕ) (said : Question
       elim (found_pair (box_pair w.first w.second e label)
       (named_pairs rs ss w.first (ingredient_with w.first label)) p found) [
         | inl own ↦ subst (IsShown hash said rs ss) own.0
-            (box_shown law hash said rs ss f g alike n m w e label h own.1)
+            (box_shown hash said rs ss f g alike n m w e label h own.1)
         | inr rest ↦
             let x = one_ingredient n m w e label h kind rest.0 in
             by h x (named_by (Some x.ingredient)) refl (sym (ap (find do_differ) x.pairs_are) ∙ rest.1)
@@ -148,9 +147,9 @@ module _ (law : OneItem) (hash : Alg → List ℕ → List ℕ) (said : Question
           → find do_differ (label_pairs rs ss w.first x.ingredient o) ≡ Some p → IsShown hash said rs ss p
       by h x None names more = absurd (cc (more))
       by h x (Some name) names more =
-          let c = targets law hash said rs ss f g alike n m w e label h x.ingredient name x.left_is x.right_is
+          let c = targets hash said rs ss f g alike n m w e label h x.ingredient name x.left_is x.right_is
           kind names in
-          target_shown law hash said rs ss f g alike n m w x.ingredient name c x.ingredient.signature
+          target_shown hash said rs ss f g alike n m w x.ingredient name c x.ingredient.signature
           c.first.binds c.second.binds p
           (sym (ap (find do_differ) (label_pairs_are n m w x.ingredient name c)) ∙ more)
 
@@ -164,7 +163,7 @@ module _ (law : OneItem) (hash : Alg → List ℕ → List ℕ) (said : Question
     pub left_is : value_in left.ingredient ≡ Some ingredient
     pub right_is : value_in right.ingredient ≡ Some ingredient
     pub named : (name : List ℕ) → named_by (Some ingredient) ≡ Some name
-        → (c : Targets law hash said rs ss f g alike n m w ingredient name) × Correspond rs ss c.first.place
+        → (c : Targets hash said rs ss f g alike n m w ingredient name) × Correspond rs ss c.first.place
         c.second.place
 
   -- without a difference an entry with the label of an ingredient is linked
@@ -189,15 +188,15 @@ module _ (law : OneItem) (hash : Alg → List ℕ → List ℕ) (said : Question
         left_is = x.left_is;
         right_is = x.right_is;
         named = λ name names.
-            let c = targets law hash said rs ss f g alike n m w e label h x.ingredient name x.left_is
+            let c = targets hash said rs ss f g alike n m w e label h x.ingredient name x.left_is
             x.right_is kind names in
             let rest : find do_differ (label_pairs rs ss w.first x.ingredient (Some name)) ≡ None =
             ap (λ o. find do_differ (label_pairs rs ss w.first x.ingredient o)) (sym names)
             ∙ sym (ap (find do_differ) x.pairs_are) ∙ both.1 in
             let claims =
-            target_same law hash said rs ss f g alike n m w x.ingredient name c x.ingredient.signature
+            target_same hash said rs ss f g alike n m w x.ingredient name c x.ingredient.signature
             (sym (ap (find do_differ) (label_pairs_are n m w x.ingredient name c)) ∙ rest) in
-            (c, targets_correspond law hash said rs ss f g alike n m w x.ingredient name c claims);
+            (c, targets_correspond hash said rs ss f g alike n m w x.ingredient name c claims);
       }
 
   -- ---- all entries of a manifest
@@ -208,7 +207,7 @@ module _ (law : OneItem) (hash : Alg → List ℕ → List ℕ) (said : Question
   ingredients_are n m w =
       pairs_are (λ place r s. entry_pairs (ingredient_pairs rs ss r s) r) rs ss n w.first w.second
       w.first_reached w.first_at
-      (counterpart_is law hash said rs ss f g alike n m w)
+      (counterpart_is hash said rs ss f g alike n m w)
 
   -- the first difference among them is real evidence
   pub ingredients_real : (n m : ℕ) (w : Correspond rs ss n m) (p : ListPair)
@@ -261,7 +260,7 @@ module _ (law : OneItem) (hash : Alg → List ℕ → List ℕ) (said : Question
           one_value (value_in b.ingredient) l.ingredient own
           (sym (ap (λ (x : ReadBox). value_in x.ingredient) box) ∙ l.left_is) reads
 
-      by : (c : Targets law hash said rs ss f g alike n m w l.ingredient name)
+      by : (c : Targets hash said rs ss f g alike n m w l.ingredient name)
           × Correspond rs ss c.first.place c.second.place
           → (i : ℕ) × Correspond rs ss j i × IsChild ss m i
       by r =
@@ -287,7 +286,7 @@ module _ (law : OneItem) (hash : Alg → List ℕ → List ℕ) (said : Question
           one_value (value_in b.ingredient) l.ingredient own
           (sym (ap (λ (x : ReadBox). value_in x.ingredient) box) ∙ l.right_is) reads
 
-      by : (c : Targets law hash said rs ss f g alike n m w l.ingredient name)
+      by : (c : Targets hash said rs ss f g alike n m w l.ingredient name)
           × Correspond rs ss c.first.place c.second.place
           → (j : ℕ) × Correspond rs ss j i × IsChild rs n j
       by r =
@@ -320,7 +319,7 @@ module _ (law : OneItem) (hash : Alg → List ℕ → List ℕ) (said : Question
       let by = names_by c.box (label_in c.child) c.names in
       let x = entered hash said ss g m w.second w.second_at w.second_reached c.box by.0 listed by.1 in
       let first =
-      one_entry w.second w.first x.entry (sym (one_claim law hash said rs ss f g alike n m w)) x.lists in
+      one_entry w.second w.first x.entry (sym (one_claim hash said rs ss f g alike n m w)) x.lists in
       let l = ingredients_same n m w none x.entry x.label first
-      (label_first law hash said rs ss f g alike n m w x.entry x.label x.lists x.is_label) x.kind in
+      (label_first hash said rs ss f g alike n m w x.entry x.label x.lists x.is_label) x.kind in
       landed_back n m w x.label l c.box x.found by.0 by.1 (label_in c.child) by.2 i c.child c.is_child refl

@@ -18,7 +18,6 @@ use Rattle.c2_compare_spec.specs.ChainContent.{claim_bytes_of, active_claim}
 use Rattle.c2_compare_spec.specs.Correspondence.{Correspond}
 use Rattle.c2_compare_spec.specs.Differences.{ingredient_pairs, entry_pairs, ingredients_at, all_ingredients}
 use Rattle.c2_compare_spec.specs.Evidence.{ListPair, do_differ}
-use Rattle.c2_spec.proofs.OneMessage.{OneItem}
 use Rattle.c2_compare_spec.proofs.Facts.{SeenAlike, StoreFacts, IsShown}
 use Rattle.c2_compare_spec.proofs.Links.{one_claim}
 use Rattle.c2_compare_spec.proofs.Lists.{bool_cases, FoundBelow, found_downward, none_downward}
@@ -49,7 +48,7 @@ reached_inactive rs a n (child _ _ c) =
     ]
 reached_inactive rs a n (through _ c _ there rest) = reached_inactive rs c n rest
 
-module _ (law : OneItem) (hash : Alg → List ℕ → List ℕ) (said : Question → Verdict) (rs ss : List Reading)
+module _ (hash : Alg → List ℕ → List ℕ) (said : Question → Verdict) (rs ss : List Reading)
     (f : StoreFacts hash said rs)
     (g : StoreFacts hash said ss) (alike : SeenAlike rs ss) (claims : active_claim rs ≡ active_claim ss) where
   -- the active manifests correspond
@@ -99,7 +98,7 @@ module _ (law : OneItem) (hash : Alg → List ℕ → List ℕ) (said : Question
       let later = c.earlier in
       let within = slice_get_within rs k c.user c.is_user in
       let w = has_counterpart k up (λ i above inside. none i (omega arith) inside) in
-      let r = step law hash said rs ss f g alike k w.0 w.1 (none k later within) n c in
+      let r = step hash said rs ss f g alike k w.0 w.1 (none k later within) n c in
       (r.0, r.1)
 
   -- the first difference among the pairs that lead on is real evidence
@@ -111,11 +110,11 @@ module _ (law : OneItem) (hash : Alg → List ℕ → List ℕ) (said : Question
       let reached =
       found_reached (λ place r s. entry_pairs (ingredient_pairs rs ss r s) r) rs ss x.place p x.found in
       let w = has_counterpart x.place ((reached_decides rs f.tree.differ x.place).0 reached) x.none_later in
-      ingredients_real law hash said rs ss f g alike x.place w.0 w.1 p x.found
+      ingredients_real hash said rs ss f g alike x.place w.0 w.1 p x.found
 
 -- ---- where none of these pairs differs
 
-module _ (law : OneItem) (hash : Alg → List ℕ → List ℕ) (said : Question → Verdict) (rs ss : List Reading)
+module _ (hash : Alg → List ℕ → List ℕ) (said : Question → Verdict) (rs ss : List Reading)
     (f : StoreFacts hash said rs)
     (g : StoreFacts hash said ss) (alike : SeenAlike rs ss) (claims : active_claim rs ≡ active_claim ss)
     (none : find do_differ (all_ingredients rs ss) ≡ None) where
@@ -126,28 +125,28 @@ module _ (law : OneItem) (hash : Alg → List ℕ → List ℕ) (said : Question
 
   -- each reached manifest of the first store corresponds to one
   pub forth : (n : ℕ) → Reached rs n → (m : ℕ) × Correspond rs ss n m
-  forth n (active _ e) = root_first law hash said rs ss f g alike claims n e
+  forth n (active _ e) = root_first hash said rs ss f g alike claims n e
   forth n (below k _ up c) =
       let w = forth k up in
-      let r = step law hash said rs ss f g alike k w.0 w.1 (none_at k w.0 w.1) n c in
+      let r = step hash said rs ss f g alike k w.0 w.1 (none_at k w.0 w.1) n c in
       (r.0, r.1)
 
   -- each reached manifest of the second store corresponds to one of the first
   pub back : (m : ℕ) → Reached ss m → (n : ℕ) × Correspond rs ss n m
-  back m (active _ e) = root_second law hash said rs ss f g alike claims m e
+  back m (active _ e) = root_second hash said rs ss f g alike claims m e
   back m (below k _ up c) =
       let w = back k up in
-      let r = step_back law hash said rs ss f g alike w.0 k w.1 (none_at w.0 k w.1) m c in
+      let r = step_back hash said rs ss f g alike w.0 k w.1 (none_at w.0 k w.1) m c in
       (r.0, r.1)
 
   -- what a manifest reaches corresponds to what its counterpart reaches
   reaches_forth : (a n : ℕ) → Reaches rs a n → (b : ℕ) → Correspond rs ss a b
       → (m : ℕ) × Correspond rs ss n m × Reaches ss b m
   reaches_forth a n (child _ _ c) b w =
-      let r = step law hash said rs ss f g alike a b w (none_at a b w) n c in
+      let r = step hash said rs ss f g alike a b w (none_at a b w) n c in
       (r.0, r.1, child b r.0 r.2)
   reaches_forth a n (through _ c _ there rest) b w =
-      let r = step law hash said rs ss f g alike a b w (none_at a b w) c there in
+      let r = step hash said rs ss f g alike a b w (none_at a b w) c there in
       let q = reaches_forth c n rest r.0 r.1 in
       (q.0, q.1, through b r.0 q.0 r.2 q.2)
 
@@ -155,10 +154,10 @@ module _ (law : OneItem) (hash : Alg → List ℕ → List ℕ) (said : Question
   reaches_back : (b m : ℕ) → Reaches ss b m → (a : ℕ) → Correspond rs ss a b
       → (n : ℕ) × Correspond rs ss n m × Reaches rs a n
   reaches_back b m (child _ _ c) a w =
-      let r = step_back law hash said rs ss f g alike a b w (none_at a b w) m c in
+      let r = step_back hash said rs ss f g alike a b w (none_at a b w) m c in
       (r.0, r.1, child a r.0 r.2)
   reaches_back b m (through _ c _ there rest) a w =
-      let r = step_back law hash said rs ss f g alike a b w (none_at a b w) c there in
+      let r = step_back hash said rs ss f g alike a b w (none_at a b w) c there in
       let q = reaches_back c m rest r.0 r.1 in
       (q.0, q.1, through a r.0 q.0 r.2 q.2)
 
@@ -206,7 +205,7 @@ module _ (law : OneItem) (hash : Alg → List ℕ → List ℕ) (said : Question
       let who : r.redactor ≡ v.1.first =
       one_value (slice_get rs r.place) r.redactor v.1.first r.at_place v.1.first_at in
       let claim =
-      ap (λ (z : Reading). z.claim) who ∙ one_claim law hash said rs ss f g alike r.place v.0 v.1 in
+      ap (λ (z : Reading). z.claim) who ∙ one_claim hash said rs ss f g alike r.place v.0 v.1 in
       record {
         place = v.0;
         reached = (reached_decides ss g.tree.differ v.0).0 v.1.second_reached;
@@ -233,7 +232,7 @@ module _ (law : OneItem) (hash : Alg → List ℕ → List ℕ) (said : Question
       let who : r.redactor ≡ v.1.second =
       one_value (slice_get ss r.place) r.redactor v.1.second r.at_place v.1.second_at in
       let claim =
-      ap (λ (z : Reading). z.claim) who ∙ sym (one_claim law hash said rs ss f g alike v.0 r.place v.1) in
+      ap (λ (z : Reading). z.claim) who ∙ sym (one_claim hash said rs ss f g alike v.0 r.place v.1) in
       record {
         place = v.0;
         reached = (reached_decides rs f.tree.differ v.0).0 v.1.first_reached;

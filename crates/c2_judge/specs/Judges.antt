@@ -59,7 +59,7 @@ pub record AsksAt {E : Type 0} (i : ℕ) (q : Question) (old new : Judges) (resu
   pub cause : OnErr result (MovedAt Failing i old.faults new.faults)
 
 -- For a private clause: what asking the judge at place `i` does to a list of judges, by the meanings of the trait.
-abbrev pub AsksJudgeAt : {J E : Type 0} (says : J → Question → Verdict) (times faults : J → ℕ) (i : ℕ) (q : Question) (old new : List J)
+abbrev pub AsksPanelAt : {J E : Type 0} (says : J → Question → Verdict) (times faults : J → ℕ) (i : ℕ) (q : Question) (old new : List J)
     → Result Verdict E → Type 0
-AsksJudgeAt says times faults i q old new result =
+AsksPanelAt says times faults i q old new result =
     AsksAt i q (judges_of says times faults old) (judges_of says times faults new) result

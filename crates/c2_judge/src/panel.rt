@@ -1,7 +1,7 @@
 // A panel of judges.
 ghost use Rattle.std.specs.Prelude.{◌≡◌, ◌<◌, IfOk, OnOk, OnErr, vec_len};
-ghost use Rattle.c2_spec.specs.Judges.Panel.{AsksJudges, Counted, Failing, LeavesPanel};
-ghost use Rattle.c2_judge.specs.Judges.{AsksJudgeAt};
+ghost use Rattle.c2_spec.specs.Judges.Panel.{AsksPanel, Counted, Failing, LeavesPanel};
+ghost use Rattle.c2_judge.specs.Judges.{AsksPanelAt};
 
 use crate::{Judge, JudgeFailed, Verdict};
 use c2_base::Question;
@@ -21,7 +21,7 @@ fn ask_one(judge: &mut Box<dyn Judge>, q: &Question) -> Result<Verdict, JudgeFai
 fn ask_at(judges: &mut Vec<Box<dyn Judge>>, i: usize, q: &Question) -> Result<Verdict, JudgeFailed>
     requires { i < vec_len judges.old }
     ensures len { vec_len judges.new ≡ vec_len judges.old }
-    ensures asks { AsksJudgeAt says asked_times judge_faults i q.now judges.old.items
+    ensures asks { AsksPanelAt says asked_times judge_faults i q.now judges.old.items
         judges.new.items result }
 {
     ask_one(&mut judges[i], q)
@@ -36,7 +36,7 @@ fn ask_at(judges: &mut Vec<Box<dyn Judge>>, i: usize, q: &Question) -> Result<Ve
 pub fn ask_panel(judges: &mut Vec<Box<dyn Judge>>, q: &Question) -> Result<Verdict, JudgeFailed>
     requires { Unit {0} }
     ensures len { vec_len judges.new ≡ vec_len judges.old }
-    ensures asks { AsksJudges says asked_times judge_faults q.now judges.old.items
+    ensures asks { AsksPanel says asked_times judge_faults q.now judges.old.items
         judges.new.items result }
     ensures leaves { LeavesPanel says asked_times judge_faults judges.old.items
         judges.new.items result }

@@ -13,7 +13,7 @@ use Rattle.c2_claim.specs.Written.{claim_item}
 use Rattle.c2_definition.specs.DefinitionFile.{IsWellFormed, is_new_label}
 use Rattle.c2_definition.specs.declared.types.Definition.{Definition}
 use Rattle.c2_definition.specs.declared.types.NewAssertion.{NewAssertion}
-use Rattle.c2_new_file_spec.specs.Built.{HasDigestLen, StoreSizesAreSame, bound_len, no_digest}
+use Rattle.c2_new_file_spec.specs.Built.{HasDigestLen, bound_len, no_digest}
 use Rattle.c2_new_file_spec.specs.FreshBoxes.{store_box}
 use Rattle.c2_new_file_spec.specs.Store.{Content, NewIngredient, assertion_box, assertion_boxes, claim_with, entry_of, ingredient_assertion, manifest_box, new_alg, new_assertions, new_claim, new_store}
 use Rattle.c2_new_file_spec.specs.Unbound.{IsKnownLabel}
@@ -25,6 +25,7 @@ use Rattle.c2_layout.specs.declared.parts.NewParts.{NewParts}
 use Rattle.c2_layout.proofs.References.{ingredient_label}
 use Rattle.c2_layout.proofs.Sizes.{both_boxes, content_size, sized_with}
 use Rattle.c2_new_file_spec.proofs.BuiltLemmas.{no_digest_len}
+use Rattle.c2_new_file_spec.proofs.StoreLaws.{new_stores_have_one_length}
 
 -- ---- the assertions and the claim
 
@@ -67,12 +68,12 @@ own_digests : (hash : List ℕ → List ℕ) (d : Definition) (k : Carried) (c :
 own_digests hash d k c is = subst (λ (x : Definition). HasDigestLen (new_alg x) hash) (sym is.definition) is.digests
 
 -- the parts of a new store are as long as was told
-pub parts_long : StoreSizesAreSame
-    → (hash : List ℕ → List ℕ) (d : Definition) (k : Carried) (c : Content) (b : NewAssertion) → IsContent hash d k c
+pub parts_long :
+    (hash : List ℕ → List ℕ) (d : Definition) (k : Carried) (c : Content) (b : NewAssertion) → IsContent hash d k c
     → (p : NewParts) → AreParts hash c b p
     → length k.boxes + parts_size d.label p d.reserve ≡ bound_len c b d.reserve
-parts_long same hash d k c b is p are =
-    let size = sized_with same hash c b d.reserve (own_digests hash d k c is) in
+parts_long hash d k c b is p are =
+    let size = sized_with hash c b d.reserve (own_digests hash d k c is) in
     let label : length c.definition.label ≡ length d.label = ap (λ (x : Definition). length x.label) is.definition in
     omega (arith, size, label, ap length is.boxes, ap length are.boxes, ap length are.claim)
 
@@ -110,23 +111,24 @@ same_store hash d k c b message is =
     (content_all hash d k c b is ∙ sym (append_assoc d.assertions k.ingredients.items (b ∷ [])))
 
 -- what the length of the new store is reckoned as
-pub reckoned_size : StoreSizesAreSame
-    → (hash : List ℕ → List ℕ) (d : Definition) (k : Carried) (c : Content) (b : NewAssertion) (reserve : ℕ)
+pub reckoned_size :
+    (hash : List ℕ → List ℕ) (d : Definition) (k : Carried) (c : Content) (b : NewAssertion) (reserve : ℕ)
     → IsContent hash d k c
     → bound_len c b reserve
     ≡ length (trees_bytes c.carried)
     + (232 + length d.label + (length (trees_bytes (assertion_boxes d.assertions)) + length (trees_bytes (assertion_boxes (k.ingredients.items ++ b ∷ [])))) + length (all_claim (no_digest (new_alg d)) d k.ingredients.items b) + reserve)
-reckoned_size same hash d k c b reserve is =
+reckoned_size hash d k c b reserve is =
     let more : List NewAssertion = k.ingredients.items in
     let blank : List ℕ → List ℕ = no_digest (new_alg d) in
     let message : List ℕ = replicate reserve 0 in
     let all : new_assertions blank (defined d more c) b ≡ all_assertions d more b =
     append_assoc d.assertions more (b ∷ []) in
     let long : bound_len c b reserve ≡ length (tree_bytes (new_store blank (defined d more c) b message)) =
-    same (no_digest (new_alg c.definition)) hash c b b message message (no_digest_len (new_alg c.definition))
-    (own_digests hash d k c is) refl refl refl
+    new_stores_have_one_length (no_digest (new_alg c.definition)) hash c b b message message
+    (no_digest_len (new_alg c.definition)) (own_digests hash d k c is) refl refl refl
     ∙ ap (λ (t : Tree). length (tree_bytes t)) (same_store hash d k c b message is)
-    ∙ same hash blank (defined d more c) b b message message is.digests (no_digest_len (new_alg d)) refl refl refl in
+    ∙ new_stores_have_one_length hash blank (defined d more c) b b message message is.digests (no_digest_len (new_alg d))
+    refl refl refl in
     let boxes : length (trees_bytes (assertion_boxes (new_assertions blank (defined d more c) b))) ≡ length (trees_bytes (assertion_boxes (all_assertions d more b))) =
     ap (λ (as_ : List NewAssertion). length (trees_bytes (assertion_boxes as_))) all in
     let claim : length (new_claim blank (defined d more c) b) ≡ length (all_claim blank d more b) =
@@ -187,13 +189,13 @@ pub record AreBoxed (d : Definition) (ingredients : List NewAssertion) (b : NewA
   pub last : CanBeBoxed b
 
 -- a store that isn't too large has room for all of them
-pub all_boxed : StoreSizesAreSame
-    → (hash : List ℕ → List ℕ) (d : Definition) (k : Carried) (c : Content) (b : NewAssertion) → IsContent hash d k c
+pub all_boxed :
+    (hash : List ℕ → List ℕ) (d : Definition) (k : Carried) (c : Content) (b : NewAssertion) → IsContent hash d k c
     → IsKnownLabel b.label → IsWellFormed d → bound_len c b d.reserve ≤ MAX_STORE_LEN
     → AreBoxed d k.ingredients.items b
-all_boxed same hash d k c b is known formed small =
+all_boxed hash d k c b is known formed small =
     let more : List NewAssertion = k.ingredients.items in
-    let size = reckoned_size same hash d k c b d.reserve is in
+    let size = reckoned_size hash d k c b d.reserve is in
     let own = both_boxes more (b ∷ []) in
     let one : length (trees_bytes (assertion_boxes (b ∷ []))) ≡ length (tree_bytes (assertion_box b)) + 0 =
     length-append (tree_bytes (assertion_box b)) [] in

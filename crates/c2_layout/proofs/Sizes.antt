@@ -5,8 +5,9 @@ use Rattle.std.proofs.lemmas.List.{length-replicate, take_all}
 use Rattle.std.proofs.lemmas.List.Sums.{sum_by-cons}
 use Rattle.c2_spec.specs.Jumbf.Tree.{tree_bytes, trees_bytes}
 use Rattle.c2_definition.specs.declared.types.NewAssertion.{NewAssertion}
-use Rattle.c2_new_file_spec.specs.Built.{HasDigestLen, StoreSizesAreSame, bound_len, no_digest}
+use Rattle.c2_new_file_spec.specs.Built.{HasDigestLen, bound_len, no_digest}
 use Rattle.c2_new_file_spec.specs.Store.{Content, assertion_box, assertion_boxes, new_alg, new_assertions, new_claim, new_manifest, new_store}
+use Rattle.c2_new_file_spec.proofs.StoreLaws.{new_stores_have_one_length}
 use Rattle.c2_new_file_spec.proofs.StoreSize.{assertion_len, manifest_len, store_len}
 use Rattle.c2_new_file_spec.proofs.BuiltLemmas.{no_digest_len}
 
@@ -61,11 +62,11 @@ pub saturated : (most a b c d e f a1 b1 a2 c1 a3 a4 a5 out : ℕ) → a1 ≡ min
 saturated most a b c d e f a1 b1 a2 c1 a3 a4 a5 out h1 h2 h3 h4 h5 h6 h7 h8 = omega arith
 
 -- with digests its parts are as long together
-pub sized_with : StoreSizesAreSame → (hash : List ℕ → List ℕ) (c : Content) (b : NewAssertion) (reserve : ℕ)
+pub sized_with : (hash : List ℕ → List ℕ) (c : Content) (b : NewAssertion) (reserve : ℕ)
     → HasDigestLen (new_alg c.definition) hash
     → bound_len c b reserve ≡ length (trees_bytes c.carried) + (232 + length c.definition.label + length (trees_bytes (assertion_boxes (new_assertions hash c b))) + length (new_claim hash c b) + reserve)
-sized_with same hash c b reserve digests =
-    same (no_digest (new_alg c.definition)) hash c b b (replicate reserve 0) (replicate reserve 0)
+sized_with hash c b reserve digests =
+    new_stores_have_one_length (no_digest (new_alg c.definition)) hash c b b (replicate reserve 0) (replicate reserve 0)
     (no_digest_len (new_alg c.definition)) digests refl refl refl
     ∙ content_size hash c b (replicate reserve 0)
     ∙ ap

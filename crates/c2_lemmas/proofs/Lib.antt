@@ -1,3 +1,4 @@
+pub mod Asks
 pub mod Bools
 pub mod Bytes
 pub mod Each

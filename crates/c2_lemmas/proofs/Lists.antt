@@ -1,10 +1,15 @@
 -- Lists: their lengths, and parts of them.
-use Rattle.std.proofs.Common.{Bool, List, Option, Some, [], ap, append-nil, arith, bytes_eq, cond, drop, false, get_or, inl, inr, is_some, length, map, min, position, refl, slice_get, suc, sym, take, true, zero, ℕ, ⊎_elim, ◌++◌, ◌+◌, ◌<◌, ◌||◌, ◌∙◌, ◌∷◌, ◌≡◌, ◌≤◌}
+use Rattle.std.proofs.Common.{Bool, List, Option, Some, [], ap, ap₂, append-nil, arith, bytes_eq, cond, drop, false, get_or, inl, inr, is_some, length, map, min, position, refl, slice_get, suc, sym, take, true, zero, ℕ, ⊎_elim, ◌++◌, ◌+◌, ◌<◌, ◌||◌, ◌∙◌, ◌∷◌, ◌≡◌, ◌≤◌}
 use Rattle.std.proofs.lemmas.Bool.{cases_lt}
 use Rattle.std.proofs.lemmas.Iterator.Adapters.{position_from-zero}
 use Rattle.std.proofs.lemmas.List.{drop-take, drop_all, drop_more, take-append-drop, take-take, take_all}
 use Rattle.std.proofs.lemmas.Slice.Eq.{bytes_eq-Decides}
 use Rattle.std.specs.List.{list_any, position_from}
+
+-- two lists that are none together
+pub both_none : {X : Type 0} (xs ys : List X) → xs ++ ys ≡ [] → (xs ≡ []) × (ys ≡ [])
+both_none [] ys e = (refl, e)
+both_none (x ∷ xs) ys e = absurd (cc (e))
 
 -- from a place on a list begins with the member there
 pub drop_first : {X : Type 0} (all : List X) (n : ℕ) (x : X) → n < length all → x ≡ get_or all n x
@@ -34,6 +39,10 @@ get_in_front (y ∷ ys) (suc n) (suc j) lt = get_in_front ys n j (omega arith)
 pub mapped_length : {A B : Type 0} (f : A → B) (xs : List A) → length (map f xs) ≡ length xs
 mapped_length f [] = refl
 mapped_length f (x ∷ xs) = ap suc (mapped_length f xs)
+
+-- two empty lists are empty together
+pub none_both : {X : Type 0} (xs ys : List X) → xs ≡ [] → ys ≡ [] → xs ++ ys ≡ []
+none_both {X} xs ys e h = ap₂ (λ (a b : List X). a ++ b) e h
 
 -- counted from any number, the first place of a label is that of the first thing with such a label
 pub position_from_map : {X Y : Type 0} (f : X → Y) (p : Y → Bool) (i : ℕ) (xs : List X)

@@ -1,8 +1,6 @@
 -- The binding of a store is met in the file that it is put into at a split.
-use Rattle.c2_assertion.proofs.TheLaws.{a_written_data_hash_has_one_length_known, a_written_data_hash_is_read, written_items_are_in_order_data}
-use Rattle.c2_jpegseg.proofs.TheLaws.{packets_hold_the_store}
+use Rattle.c2_assertion.proofs.TheLaws.{a_written_data_hash_has_one_length_known}
 use Rattle.c2_bmff_insert_spec.proofs.TheLaws.{a_put_store_is_not_covered_some}
-use Rattle.c2_cbor_spec.proofs.TheLaws.{round_trip, sorting_keeps_the_length}
 use Rattle.std.specs.Prelude.{is_none, is_some, not}
 use Rattle.std.proofs.Common.{◌≡◌, ℕ, ◌+◌, ◌≤◌, true, List, [], ◌∷◌, ◌++◌, length, Option, Some, Ok, option_map, refl, sym, ap, ◌∙◌, subst, arith, bytes_eq, codes}
 use Rattle.std.specs.declared.result.Result.{Result}
@@ -14,8 +12,7 @@ use Rattle.c2_spec.specs.Bmff.Hash.{BmffHash}
 use Rattle.c2_spec.specs.Bmff.Writing.{built_text, c2pa_box, c2pa_frame_len}
 use Rattle.c2_spec.specs.Container.{bmff}
 use Rattle.c2_spec.specs.Cover.{bad_range, data_text, excluded_positions}
-use Rattle.c2_spec.specs.Cbor.Deterministic.{deterministic}
-use Rattle.c2_spec.specs.Digest.{alg_name, alg_named, digest_len}
+use Rattle.c2_spec.specs.Digest.{alg_name, alg_named}
 use Rattle.c2_spec.specs.Jpeg.Segments.{Segment, place_after}
 use Rattle.c2_spec.specs.Jpeg.Writing.{packets_bytes, segments_len}
 use Rattle.c2_spec.specs.PutIn.{put_in}
@@ -30,7 +27,7 @@ use Rattle.c2_rules.specs.Ingredients.{assertion_uri}
 use Rattle.c2_rules.specs.Rules as rule
 use Rattle.c2_rules.specs.Rules.{has_digest_by}
 use Rattle.c2_rules.proofs.JpegMedia.{begins, is_jpeg_media, jpeg_media}
-use Rattle.c2_assertion.specs.Written.{data_hash_item, one_exclusion}
+use Rattle.c2_assertion.specs.Written.{one_exclusion}
 use Rattle.c2_bmff_insert_spec.specs.Laws.{HasBuiltCover}
 use Rattle.c2_new_file_spec.specs.Built.{HasDigestLen}
 use Rattle.c2_new_file_spec.specs.Store.{data_binding, range_at}
@@ -49,12 +46,6 @@ use Rattle.c2_new_file_spec.proofs.Put.{put_len}
 use Rattle.c2_lemmas.proofs.Lists.{same_bytes}
 
 -- ---- between segments
-
--- the item of a data hash with one range has one length for each algorithm
-abbrev pub KnownLength : Type 0
-KnownLength =
-    (alg : Alg) (hash : List ℕ) (r : Range) → length hash ≡ digest_len alg → length
-    (deterministic (data_hash_item (one_exclusion (Some (alg_name alg)) hash r))) ≡ 68 + digest_len alg
 
 -- a range that ends in the file is in order
 one_in_order : (size start len : ℕ) → start + len ≤ size → is_none (bad_range size (range_at start len ∷ [])) ≡ true
@@ -78,15 +69,14 @@ segments_met hash alg store base piece front back number g can put =
     let inside : start ≤ length base = segments_inside base front back can.room.split.0 in
     let same : packets_bytes store en ≡ piece = packets_are number en store piece can.room.room.1 put in
     let count : length piece ≡ len =
-    ap length (sym same) ∙ (packets_hold packets_hold_the_store base front back number en store can free).size in
-    let stored = packets_at packets_hold_the_store base front back number en store can free in
+    ap length (sym same) ∙ (packets_hold base front back number en store can free).size in
+    let stored = packets_at base front back number en store can free in
     let is_data : IsDataHash (data_binding alg start len (h base)).bytes (one_exclusion (Some (alg_name alg)) (h base) range) =
-    data_read sorting_keeps_the_length round_trip a_written_data_hash_is_read written_items_are_in_order_data
-    (alg_name alg) (h base) range (name_utf8 alg)
+    data_read (alg_name alg) (h base) range (name_utf8 alg)
     (omega (arith, inside, can.room.fits)) (omega (arith, can.room.fits))
     (omega (arith, a_written_data_hash_has_one_length_known alg (h base) range (g base), (len_bounds alg).1)) in
     let covered : data_text (range ∷ []) file ≡ base =
-    segments_text packets_hold_the_store base front back number store piece can put in
+    segments_text base front back number store piece can put in
     let total : length file ≡ length base + length piece = put_len start piece base in
     let in_order : is_none (bad_range (length file) (range ∷ [])) ≡ true =
     one_in_order (length file) start len (omega (arith, total, count, inside)) in

@@ -1,5 +1,4 @@
 -- What a file holds that a store is put into at a split, and what its binding covers, by the container.
-use Rattle.c2_jpegseg.proofs.TheLaws.{packets_hold_the_store}
 use Rattle.c2_bmff_insert_spec.proofs.TheLaws.{a_put_store_is_not_covered_some, a_put_store_is_not_covered_text}
 use Rattle.std.proofs.Common.{◌≡◌, ℕ, ◌+◌, List, [], ◌∷◌, ◌++◌, length, Option, Some, option_map, refl, sym, ap, ◌∙◌, subst}
 use Rattle.std.proofs.lemmas.Option.{same_Some}
@@ -11,7 +10,6 @@ use Rattle.c2_spec.specs.Jpeg.Segments.{Segment, place_after}
 use Rattle.c2_spec.specs.Jpeg.Writing.{packets_bytes, segments_len}
 use Rattle.c2_spec.specs.PutIn.{put_in}
 use Rattle.c2_spec.proofs.BmffOneList.{roots_once}
-use Rattle.c2_jpegseg.specs.Laws.{PacketsHoldTheStore}
 use Rattle.c2_bmff_insert_spec.specs.Laws.{HasBuiltCover}
 use Rattle.c2_new_file_spec.specs.Store.{range_at}
 use Rattle.c2_new_file_spec.proofs.BuiltLemmas.{covers_base}
@@ -37,28 +35,28 @@ packets_are number en store piece free is =
     same_Some (packets_bytes store en) piece (sym (ap (option_map (packets_bytes store)) free) ∙ is)
 
 -- the file holds it
-pub store_holds : PacketsHoldTheStore → StoreIsAtSplit
-store_holds hold base (of_segments front back number) store piece can put =
+pub store_holds : StoreIsAtSplit
+store_holds base (of_segments front back number) store piece can put =
     let en : ℕ = can.room.room.0 in
     let free : CanNumber back en = number_can front back number en can.room.room.1 can.room.split.1 in
     subst (λ (x : List ℕ). HoldsAt base (of_segments front back number) store (put_in (place_after front) x base))
     (packets_are number en store piece can.room.room.1 put)
-    (segments_hold hold base front back number en store can free)
-store_holds hold base (of_boxes front back) store piece can put =
+    (segments_hold base front back number en store can free)
+store_holds base (of_boxes front back) store piece can put =
     subst (λ (x : List ℕ). HoldsAt base (of_boxes front back) store (put_in (boxes_len front) x base))
     (same_Some (box_bytes (c2pa_box store)) piece put) (boxes_hold base front back store can)
 
 -- ---- the text
 
 -- outside the packets of a store a file has what it was
-pub segments_text : PacketsHoldTheStore → (base : List ℕ) (front back : List Segment) (number : Option ℕ)
-    (store piece : List ℕ)
+pub segments_text :
+    (base : List ℕ) (front back : List Segment) (number : Option ℕ) (store piece : List ℕ)
     → CanHold base (of_segments front back number) store → option_map (packets_bytes store) number ≡ Some piece
     → data_text (range_at (place_after front) (segments_len (length store)) ∷ []) (put_in (place_after front) piece base) ≡ base
-segments_text hold base front back number store piece can put =
+segments_text base front back number store piece can put =
     let en : ℕ = can.room.room.0 in
     let free : CanNumber back en = number_can front back number en can.room.room.1 can.room.split.1 in
-    let held = packets_hold hold base front back number en store can free in
+    let held = packets_hold base front back number en store can free in
     let same : packets_bytes store en ≡ piece = packets_are number en store piece can.room.room.1 put in
     covers_base (place_after front) (segments_len (length store)) piece base
     (segments_inside base front back can.room.split.0)
@@ -67,7 +65,7 @@ segments_text hold base front back number store piece can put =
 -- the binding covers the text
 pub text_covered : TextIsCovered
 text_covered base (of_segments front back number) store piece can put =
-    sym (segments_text packets_hold_the_store base front back number store piece can put)
+    sym (segments_text base front back number store piece can put)
 text_covered base (of_boxes front back) store piece can put =
     let boxes : List Box = front ++ c2pa_box store ∷ back in
     let whole : List ℕ = split_file base (of_boxes front back) (box_bytes (c2pa_box store)) in
@@ -89,7 +87,7 @@ text_covered base (of_boxes front back) store piece can put =
 -- the binding covers no other text
 pub text_one : TextIsOne
 text_one base (of_segments front back number) store piece text can put c =
-    c ∙ segments_text packets_hold_the_store base front back number store piece can put
+    c ∙ segments_text base front back number store piece can put
 text_one base (of_boxes front back) store piece text can put c =
     let boxes : List Box = front ++ c2pa_box store ∷ back in
     let file : List ℕ = split_file base (of_boxes front back) piece in

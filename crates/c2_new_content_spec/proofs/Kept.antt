@@ -12,7 +12,7 @@ use Rattle.c2_spec.specs.PutIn.{taken_out}
 use Rattle.c2_spec.proofs.BmffOneList.{first_box}
 use Rattle.c2_spec.proofs.BmffOneStore.{store_or_none, stores_once}
 use Rattle.c2_spec.proofs.BmffSizes.{bytes_size}
-use Rattle.c2_bmff_insert_spec.specs.Laws.{EndIsCutOut}
+use Rattle.c2_bmff_insert_spec.proofs.TheLaws.{a_base_has_no_store_cut}
 use Rattle.c2_new_content_spec.proofs.SplitRoots.{forms_back}
 use Rattle.c2_new_file_spec.specs.Store.{range_at}
 use Rattle.c2_new_file_spec.proofs.Put.{put_taken}
@@ -50,14 +50,16 @@ freed_same media base xs b ys is was now =
     ∙ sym (ap (taken_out (boxes_len xs) (box_len b)) was ∙ left_is xs ys b (box_len b) size)
 
 -- the root boxes without the one that holds a store keep the bytes of the file
-roots_keep : EndIsCutOut → (media base : List ℕ) (boxes : List Box) (start len : ℕ) (store : List ℕ)
+roots_keep : (media base : List ℕ) (boxes : List Box) (start len : ℕ) (store : List ℕ)
     → HasRoots media boxes
     → (h : HoldsBmffStore boxes start len store) → base ≡ flat_map box_bytes (base_roots h.before h.holder h.after)
     → KeepsOutside media (Some (range_at start len)) base
-roots_keep cut media base boxes start len store r h is = by (is_file_end h.after) refl
+roots_keep media base boxes start len store r h is = by (is_file_end h.after) refl
   where
     by : (t : Bool) → is_file_end h.after ≡ t → KeepsOutside media (Some (range_at start len)) base
-    by true e = record { freed = None; only = inl refl; same = is ∙ cut media boxes start len store r h e }
+    by true e =
+        record
+        { freed = None; only = inl refl; same = is ∙ a_base_has_no_store_cut media boxes start len store r h e }
     by false e =
         let own : IsBox h.holder =
         first_box h.holder h.after (forms_back h.before h.holder h.after (subst AreBoxForms h.split r.forms)) in
@@ -75,10 +77,10 @@ roots_keep cut media base boxes start len store r h is = by (is_file_end h.after
         }
 
 -- the base of a BMFF file with a store keeps the bytes of the file outside the store's range
-bmff_keeps : EndIsCutOut → (media base : List ℕ) (roots : List Box) (start len : ℕ) (store : List ℕ)
+bmff_keeps : (media base : List ℕ) (roots : List Box) (start len : ℕ) (store : List ℕ)
     → HasBmffStore media start len store
     → IsBmffBase media base roots → KeepsOutside media (Some (range_at start len)) base
-bmff_keeps cut media base roots start len store has h = by h.are
+bmff_keeps media base roots start len store has h = by h.are
   where
     by : AreBaseRoots h.boxes roots → KeepsOutside media (Some (range_at start len)) base
     by (same others e) =
@@ -87,15 +89,15 @@ bmff_keeps cut media base roots start len store has h = by h.are
     by (without s n text holds e) =
         let other : HasBmffStore media s n text = record { roots = h.boxes; has_roots = h.has_roots; holds = holds } in
         let once = stores_once media s n start len text store other has in
-        let left = roots_keep cut media base h.boxes s n text h.has_roots holds (h.bytes ∙ ap (flat_map box_bytes) e) in
+        let left = roots_keep media base h.boxes s n text h.has_roots holds (h.bytes ∙ ap (flat_map box_bytes) e) in
         subst (λ (x : ℕ). KeepsOutside media (Some (range_at x len)) base) once.0
         (subst (λ (x : ℕ). KeepsOutside media (Some (range_at s x)) base) once.1 left)
 
 -- ---- the media
 
 -- what is left of a media file keeps the bytes outside the range of its store
-pub left_keeps : EndIsCutOut → LeftKeeps
-left_keeps cut media start len t base o left =
+pub left_keeps : LeftKeeps
+left_keeps media start len t base o left =
     let at = located_here o.0 start len t o.2 in
     by at.0 (is_bmff media) (subst (IsLocated media) at.1 o.1) left
   where
@@ -103,7 +105,7 @@ left_keeps cut media start len t base o left =
         → MatchBool b (HasBmffStore media start len store) (jpeg.HasJpegStore media start len store)
         → MatchBool b (IsLeftOfBoxes media base) (base ≡ taken_out start len media)
         → KeepsOutside media (Some (range_at start len)) base
-    by store true h k = bmff_keeps cut media base k.0 start len store h k.1
+    by store true h k = bmff_keeps media base k.0 start len store h k.1
     by store false h k = record { freed = None; only = inl refl; same = k }
 
 -- what is left of a media file keeps its bytes, whatever is put into it

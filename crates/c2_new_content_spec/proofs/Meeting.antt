@@ -1,5 +1,4 @@
 -- The file that a store is put into at a split meets the rules.
-use Rattle.c2_jpegseg.proofs.TheLaws.{packets_hold_the_store}
 use Rattle.c2_new_content_spec.proofs.Holding.{store_holds}
 use Rattle.c2_new_file_spec.proofs.StoreLaws.{a_bound_file_meets_the_rules}
 use Rattle.std.proofs.Common.{ℕ, List, length}
@@ -18,7 +17,7 @@ split_meets hash alg t base piece (of_segments front back number) qs digests can
     let sized : HasDigestLen alg (hash alg) = λ text. (digests alg text).sized in
     a_bound_file_meets_the_rules hash (split_file base s piece) (split_start s) len t
     (binding_at (hash alg) alg base s len) qs unbound
-    ((store_holds packets_hold_the_store) base s store piece can put).located
+    (store_holds base s store piece can put).located
     (segments_met hash alg store base piece front back number sized can put)
 split_meets hash alg t base piece (of_boxes front back) qs digests can put unbound =
     let s : Split = of_boxes front back in
@@ -27,5 +26,5 @@ split_meets hash alg t base piece (of_boxes front back) qs digests can put unbou
     let sized : HasDigestLen alg (hash alg) = λ text. (digests alg text).sized in
     a_bound_file_meets_the_rules hash (split_file base s piece) (split_start s) len t
     (binding_at (hash alg) alg base s len) qs unbound
-    ((store_holds packets_hold_the_store) base s store piece can put).located
+    (store_holds base s store piece can put).located
     (bmff_met hash alg store base piece front back sized can put)

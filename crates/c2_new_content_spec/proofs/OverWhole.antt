@@ -11,7 +11,8 @@ use Rattle.c2_rules.specs.Chains.{LabelsDiffer, label_in}
 use Rattle.c2_rules.specs.CheckList.{questions, questions_of}
 use Rattle.c2_rules.specs.Readings.{Reading}
 use Rattle.c2_rules.specs.Tests.{downward}
-use Rattle.c2_chain_spec.specs.Rooted.{ReadsKinds, StoreIsRooted, last_roots}
+use Rattle.c2_chain_spec.specs.Rooted.{ReadsKinds, last_roots}
+use Rattle.c2_chain_spec.proofs.ChainLaws.{a_store_is_rooted_at_its_last_manifest}
 use Rattle.c2_chain_spec.proofs.Rooting.{last_active}
 use Rattle.c2_new_file_spec.specs.Store.{Content, NamedManifest, NewIngredient, new_alg, new_claim, new_store, parent_ingredient}
 use Rattle.c2_new_file_spec.specs.Unbound.{MeetsUnbound}
@@ -21,9 +22,10 @@ use Rattle.c2_new_file_spec.specs.Carrying.{IsLast, IsTakenOver}
 use Rattle.c2_new_file_spec.specs.Less.{AreLess, CanRedactBy}
 use Rattle.c2_new_file_spec.proofs.Places.{LessAt, less_at, less_label}
 use Rattle.c2_new_file_spec.proofs.Stores.{store_differs}
-use Rattle.c2_new_content_spec.specs.Gathered.{GatheredStoreMeets, IsOverRoots}
+use Rattle.c2_new_content_spec.specs.Gathered.{IsOverRoots}
 use Rattle.c2_new_content_spec.specs.Taken.{IsRoot, IsTakenFrom, questions_from}
 use Rattle.c2_new_content_spec.specs.Over.{SucceedingStoreMeets}
+use Rattle.c2_new_content_spec.proofs.ContentLaws.{a_gathered_store_meets_the_rules_meets}
 use Rattle.c2_lemmas.proofs.Each.{contains_at, member_of}
 
 -- ---- what is taken over
@@ -38,13 +40,13 @@ old_differ redacts rs ss less differ i j r s e f g =
     (less_label redacts a.old a.new a.less ∙ ap label_in (same_Some a.old r (sym a.is_old ∙ e)) ∙ g ∙ sym (ap label_in (same_Some b.old s (sym b.is_old ∙ f))) ∙ sym (less_label redacts b.old b.new b.less))
 
 -- an older store that is taken over is a chain that is taken over from its last manifest
-taken_from : StoreIsRooted → (hash : Alg → List ℕ → List ℕ) (c : Content) (rs ss : List Reading)
+taken_from : (hash : Alg → List ℕ → List ℕ) (c : Content) (rs ss : List Reading)
     → IsTakenOver hash c rs ss → IsTakenFrom hash c.definition c.carried (last_roots rs) rs ss
-taken_from roots hash c rs ss h = record {
+taken_from hash c rs ss h = record {
   can_be = h.carried;
   reads = h.reads;
   less = h.less;
-  rooted = roots hash rs
+  rooted = a_store_is_rooted_at_its_last_manifest hash rs
       (old_differ c.definition.redact rs ss h.less (store_differs c.carried ss h.reads h.carried.manifests h.carried.distinct))
       (λ i r is. member_of ReadsKinds rs r h.kinds (contains_at rs i r is)) h.holds;
   can = subst (λ (f : ℕ → Bool). CanRedactBy f c.definition.redact rs) (fun_ext (λ i. last_active rs i)) h.can;
@@ -72,8 +74,8 @@ asked_from rs =
     (fun_ext (λ i. sym (last_active rs i)))
 
 -- a new store with the last manifest of an older one as its parent meets the rules
-pub over_last : GatheredStoreMeets → StoreIsRooted → SucceedingStoreMeets
-over_last gathers roots hash c parent binding message p rs ss has w known small spells over last =
+pub over_last : SucceedingStoreMeets
+over_last hash c parent binding message p rs ss has w known small spells over last =
     let h : List ℕ → List ℕ = hash (new_alg c.definition) in
     let named : AllZip (λ (g : NewIngredient) r. IsRoot rs ss g.of r) (parent_ingredient parent ∷ []) (last_roots rs) =
     subst (AllZip (λ (g : NewIngredient) r. IsRoot rs ss g.of r) (parent_ingredient parent ∷ []))
@@ -84,11 +86,11 @@ over_last gathers roots hash c parent binding message p rs ss has w known small 
       known = known;
       fits = small;
       spells = spells;
-      taken = taken_from roots hash c rs ss over;
+      taken = taken_from hash c rs ss over;
       named = subst
           (λ (gs : List NewIngredient). AllZip (λ (g : NewIngredient) r. IsRoot rs ss g.of r) gs (last_roots rs))
           (sym has) named;
     } in
     subst
     (λ (qs : List Question). MeetsUnbound hash (new_store h c binding message) binding (question_of p (new_claim h c binding) ∷ qs))
-    (asked_from rs) (gathers hash c binding message p (last_roots rs) rs ss over_roots)
+    (asked_from rs) (a_gathered_store_meets_the_rules_meets hash c binding message p (last_roots rs) rs ss over_roots)

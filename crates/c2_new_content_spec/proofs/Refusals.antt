@@ -1,28 +1,21 @@
 -- What is refused at a split, and that there is a file where nothing is.
-use Rattle.std.proofs.Common.{◌≡◌, ℕ, ◌+◌, Bool, true, false, cond, List, [], ◌∷◌, ◌++◌, length, Some, None, refl, ap, ap₂}
+use Rattle.std.proofs.Common.{◌≡◌, ℕ, ◌+◌, Bool, true, false, cond, List, [], ◌∷◌, ◌++◌, length, Some, None, refl, ap}
 use Rattle.std.specs.Prelude.{nat_lt, nat_le}
 use Rattle.std.specs.List.{flat_map}
 use Rattle.std.proofs.lemmas.Bool.{le-ltb, leb-false, lt-leb, ltb-false}
+use Rattle.c2_lemmas.proofs.Lists.{both_none, none_both}
 use Rattle.c2_base.specs.declared.limits.TheConstants.{FILE_LEN_LIMIT, MAX_ROOT_BOXES, MAX_STORE_LEN}
 use Rattle.c2_spec.specs.Bmff.Boxes.{Box, box_len, is_to_end}
 use Rattle.c2_spec.specs.Bmff.Paths.{placed_from}
 use Rattle.c2_spec.specs.Jumbf.Tree.{tree_bytes}
 use Rattle.c2_new_file_spec.specs.Store.{new_alg}
-use Rattle.c2_new_content_spec.specs.Contents.{ContentFileMeets, content_size, content_store}
-use Rattle.c2_new_content_spec.specs.Holding.{PieceIsThere}
+use Rattle.c2_new_content_spec.specs.Contents.{content_size, content_store}
+use Rattle.c2_new_content_spec.proofs.Contents.{content_meets}
+use Rattle.c2_new_content_spec.proofs.Holding.{piece_there}
 use Rattle.c2_new_content_spec.specs.Refusals.{RoomIsUnrefused, SplitRefusal, UnrefusedHasRoom, UnrefusedIsBuilt, box_refusals, count_refusals, file_too_large, open_box, place_refusals, store_too_large, too_many_boxes}
 use Rattle.c2_new_content_spec.specs.Splits.{AreClosed, HasRoom, HasRoomFor, Split, of_boxes, of_segments, split_file, split_len}
 
 -- ---- lists
-
--- two lists that are none together
-both_none : (xs ys : List SplitRefusal) → xs ++ ys ≡ [] → (xs ≡ []) × (ys ≡ [])
-both_none [] ys e = (refl, e)
-both_none (x ∷ xs) ys e = absurd (cc (e))
-
--- none and none
-none_both : (xs ys : List SplitRefusal) → xs ≡ [] → ys ≡ [] → xs ++ ys ≡ []
-none_both xs ys e h = ap₂ (λ (a b : List SplitRefusal). a ++ b) e h
 
 -- a test that passes
 test_false : (b : Bool) (r : SplitRefusal) → cond b (r ∷ []) [] ≡ [] → b ≡ false
@@ -104,18 +97,18 @@ room_unrefused base s size h =
 -- ---- the file
 
 -- where nothing is refused, there is a file, which meets the rules
-pub unrefused_built : ContentFileMeets → PieceIsThere → UnrefusedIsBuilt
-unrefused_built files pieces hash c message base s parts older digests content is free e =
+pub unrefused_built : UnrefusedIsBuilt
+unrefused_built hash c message base s parts older digests content is free e =
     let room : HasRoomFor base s (content_size s c (length message)) =
     has_room base s (content_size s c (length message)) is e in
-    let piece = pieces s (tree_bytes (content_store (hash (new_alg c.definition)) c message base s)) room.room in (
+    let piece = piece_there s (tree_bytes (content_store (hash (new_alg c.definition)) c message base s)) room.room in (
       split_file base s piece.0,
       record {
         piece = piece.0;
         is_piece = piece.1;
         put = refl;
         meets =
-            files hash c message base piece.0 s parts older digests content (record { room = room; free = free })
+            content_meets hash c message base piece.0 s parts older digests content (record { room = room; free = free })
             piece.1;
       },
     )

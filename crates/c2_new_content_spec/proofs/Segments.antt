@@ -9,7 +9,8 @@ use Rattle.c2_spec.specs.Jpeg.Store.{HasJpegStore, HoldsStore}
 use Rattle.c2_spec.specs.Jpeg.Writing.{packets_bytes, packets_of, segments_len}
 use Rattle.c2_spec.specs.PutIn.{put_in, taken_out}
 use Rattle.c2_rules.proofs.JpegMedia.{store_located}
-use Rattle.c2_jpegseg.specs.Laws.{PacketsHold, PacketsHoldTheStore}
+use Rattle.c2_jpegseg.specs.Laws.{PacketsHold}
+use Rattle.c2_jpegseg.proofs.TheLaws.{packets_hold_the_store}
 use Rattle.c2_new_file_spec.proofs.Put.{put_between, put_len, put_taken}
 use Rattle.c2_new_content_spec.specs.Holding.{HoldsAt}
 use Rattle.c2_new_content_spec.specs.Splits.{CanHold, CanNumber, IsNumbered, of_segments}
@@ -30,21 +31,22 @@ pub number_can : (front back : List Segment) (number : Option ℕ) (en : ℕ) �
 number_can front back number en e h = subst (IsNumbered front back) e h
 
 -- the packets hold the store between the other segments
-pub packets_hold : PacketsHoldTheStore → (base : List ℕ) (front back : List Segment) (number : Option ℕ) (en : ℕ)
-    (store : List ℕ)
+pub packets_hold :
+    (base : List ℕ) (front back : List Segment) (number : Option ℕ) (en : ℕ) (store : List ℕ)
     → CanHold base (of_segments front back number) store → CanNumber back en → PacketsHold store en front back
-packets_hold hold base front back number en store can free =
-    hold store en front back can.stored free.most (each_front (λ s. is_store_start s ≡ false) front back can.free)
+packets_hold base front back number en store can free =
+    packets_hold_the_store store en front back can.stored free.most
+    (each_front (λ s. is_store_start s ≡ false) front back can.free)
     (each_back (λ s. is_store_start s ≡ false) front back can.free) free.unused
 
 -- the file has the store in the range of the packets
-pub packets_at : PacketsHoldTheStore → (base : List ℕ) (front back : List Segment) (number : Option ℕ) (en : ℕ)
-    (store : List ℕ)
+pub packets_at :
+    (base : List ℕ) (front back : List Segment) (number : Option ℕ) (en : ℕ) (store : List ℕ)
     → CanHold base (of_segments front back number) store → CanNumber back en
     → HasJpegStore (put_in (place_after front) (packets_bytes store en) base) (place_after front) (segments_len (length store)) store
-packets_at hold base front back number en store can free =
+packets_at base front back number en store can free =
     let of : IsOfSegments base (front ++ back) = can.room.split.0 in
-    let held : PacketsHold store en front back = packets_hold hold base front back number en store can free in
+    let held : PacketsHold store en front back = packets_hold base front back number en store can free in
     let total : length (put_in (place_after front) (packets_bytes store en) base) ≡ length base + length (packets_bytes store en) =
     put_len (place_after front) (packets_bytes store en) base in
     record {
@@ -59,17 +61,17 @@ packets_at hold base front back number en store can free =
     }
 
 -- a file of segments holds the packets of a store that are put in, and is otherwise what it was
-pub segments_hold : PacketsHoldTheStore → (base : List ℕ) (front back : List Segment) (number : Option ℕ) (en : ℕ)
-    (store : List ℕ)
+pub segments_hold :
+    (base : List ℕ) (front back : List Segment) (number : Option ℕ) (en : ℕ) (store : List ℕ)
     → CanHold base (of_segments front back number) store → CanNumber back en
     → HoldsAt base (of_segments front back number) store (put_in (place_after front) (packets_bytes store en) base)
-segments_hold hold base front back number en store can free =
+segments_hold base front back number en store can free =
     let start : ℕ = place_after front in
     let piece : List ℕ = packets_bytes store en in
     let file : List ℕ = put_in start piece base in
-    let held : PacketsHold store en front back = packets_hold hold base front back number en store can free in
+    let held : PacketsHold store en front back = packets_hold base front back number en store can free in
     let stored : HasJpegStore file start (segments_len (length store)) store =
-    packets_at hold base front back number en store can free in
+    packets_at base front back number en store can free in
     record {
       located = store_located file start (segments_len (length store)) store stored;
       left =

@@ -1,10 +1,5 @@
 -- The laws of this crate, for the proofs of the crates above it.
-use Rattle.c2_bmff_insert_spec.proofs.TheLaws.{a_base_has_no_store_cut}
-use Rattle.c2_jpegseg.proofs.TheLaws.{packets_hold_the_store}
-use Rattle.c2_new_file_spec.proofs.BmffLaws.{a_new_bmff_store_has_one_length_store}
-use Rattle.c2_new_content_spec.proofs.ContentLaws.{a_gathered_store_meets_the_rules_meets}
 use Rattle.c2_new_file_spec.specs.Meeting.{BaseStays, FreshPlaceMeets, OverPlaceMeets}
-use Rattle.c2_new_content_spec.proofs.OverLaws.{a_succeeding_store_meets_the_rules}
 use Rattle.c2_new_content_spec.proofs.SplitBoxes.{box_at}
 use Rattle.c2_new_content_spec.proofs.Built.{file_built, file_one}
 use Rattle.c2_new_content_spec.proofs.Contents.{content_meets, fresh_content, gathered_content, over_content, size_fixed}
@@ -22,8 +17,6 @@ use Rattle.c2_new_content_spec.specs.Instances.{PlaceIsSplit}
 use Rattle.c2_new_content_spec.specs.Kept.{LeftKeeps, PieceIsTakenOut, SplitFileKeeps}
 use Rattle.c2_new_content_spec.specs.Meeting.{SplitFileMeets}
 use Rattle.c2_new_content_spec.specs.Refusals.{RoomIsUnrefused, UnrefusedHasRoom, UnrefusedIsBuilt}
-use Rattle.c2_new_file_spec.proofs.StoreLaws.{a_new_store_has_one_length}
-use Rattle.c2_new_file_spec.proofs.ParentLaws.{a_valid_store_is_carried_carried}
 
 -- where something can be put at a split, there is something to put in of each store
 pub a_store_is_at_its_split_piece : PieceIsThere
@@ -31,7 +24,7 @@ a_store_is_at_its_split_piece = piece_there
 
 -- where something can be put at a split, there is something to put in of each store
 pub a_store_is_at_its_split_store : StoreIsAtSplit
-a_store_is_at_its_split_store = store_holds packets_hold_the_store
+a_store_is_at_its_split_store = store_holds
 
 -- a file that a store is put into at a split meets each rule but its verdict, where the store meets each but its verdict and its binding, and the binding is that of the file
 pub a_file_at_a_split_meets_the_rules : SplitFileMeets
@@ -39,12 +32,11 @@ a_file_at_a_split_meets_the_rules = split_meets
 
 -- the length of a new store at a split depends on what goes into it and on the length of its message, neither on its range nor on digests
 pub a_new_store_has_one_length_at_its_split : ContentSizeIsFixed
-a_new_store_has_one_length_at_its_split = size_fixed a_new_store_has_one_length a_new_bmff_store_has_one_length_store
+a_new_store_has_one_length_at_its_split = size_fixed
 
 -- the file that such a store is put into at a split meets each rule but the verdict on its message, whichever content it is of
 pub the_file_of_a_content_meets_the_rules : ContentFileMeets
-the_file_of_a_content_meets_the_rules =
-    content_meets a_file_at_a_split_meets_the_rules a_new_store_has_one_length_at_its_split
+the_file_of_a_content_meets_the_rules = content_meets
 
 -- the place of a file without a store is a split of it, where the same bytes are put in of each store, and the same text is bound
 pub a_place_is_a_split_split : PlaceIsSplit
@@ -52,31 +44,31 @@ a_place_is_a_split_split = place_split
 
 -- the place of a file without a store is a split of it, where the same bytes are put in of each store, and the same text is bound
 pub a_place_is_a_split_file : PlaceFileMeets
-a_place_is_a_split_file = place_file place_split the_file_of_a_content_meets_the_rules
+a_place_is_a_split_file = place_file
 
 -- the new store of a definition alone meets each rule but the verdict on its message and the one on its binding, whichever the binding is
 pub a_content_meets_the_rules_fresh : FreshContentMeets
-a_content_meets_the_rules_fresh = fresh_content a_gathered_store_meets_the_rules_meets
+a_content_meets_the_rules_fresh = fresh_content
 
 -- the new store of a definition alone meets each rule but the verdict on its message and the one on its binding, whichever the binding is
 pub a_content_meets_the_rules_over : OverContentMeets
-a_content_meets_the_rules_over = over_content a_valid_store_is_carried_carried a_succeeding_store_meets_the_rules
+a_content_meets_the_rules_over = over_content
 
 -- the new store of a definition alone meets each rule but the verdict on its message and the one on its binding, whichever the binding is
 pub a_content_meets_the_rules_gathered : GatheredContentMeets
-a_content_meets_the_rules_gathered = gathered_content a_gathered_store_meets_the_rules_meets
+a_content_meets_the_rules_gathered = gathered_content
 
 -- a file that is built in its place, over one without a store or over what is left of a valid one with a store, has the new store, meets each rule but the verdict on its message, and asks the new question and then those of the older store
 pub a_file_built_in_its_place_meets_the_rules_fresh : FreshPlaceMeets
-a_file_built_in_its_place_meets_the_rules_fresh = fresh_place a_place_is_a_split_file a_content_meets_the_rules_fresh
+a_file_built_in_its_place_meets_the_rules_fresh = fresh_place
 
 -- a file that is built in its place, over one without a store or over what is left of a valid one with a store, has the new store, meets each rule but the verdict on its message, and asks the new question and then those of the older store
 pub a_file_built_in_its_place_meets_the_rules_over : OverPlaceMeets
-a_file_built_in_its_place_meets_the_rules_over = over_place a_place_is_a_split_file a_content_meets_the_rules_over
+a_file_built_in_its_place_meets_the_rules_over = over_place
 
 -- less the new range, a file that is built in its place is what it was
 pub a_base_stays : BaseStays
-a_base_stays = base_stays a_place_is_a_split_split a_store_is_at_its_split_store a_new_store_has_one_length_at_its_split
+a_base_stays = base_stays
 
 -- what the new binding covers of the file depends on the store by its length alone
 pub the_covered_text_depends_on_a_length_roots : BoxIsAtSplit
@@ -96,13 +88,11 @@ the_covered_text_depends_on_a_length_once = text_one
 
 -- there is one file whose new store is put in at a split and whose binding holds the digest of what it covers of the file
 pub a_file_built_at_a_split_is_one_is : FileIsBuiltAt
-a_file_built_at_a_split_is_one_is =
-    file_built a_new_store_has_one_length_at_its_split the_covered_text_depends_on_a_length_covered
+a_file_built_at_a_split_is_one_is = file_built
 
 -- there is one file whose new store is put in at a split and whose binding holds the digest of what it covers of the file
 pub a_file_built_at_a_split_is_one_once : FileAtSplitIsOne
-a_file_built_at_a_split_is_one_once =
-    file_one a_new_store_has_one_length_at_its_split the_covered_text_depends_on_a_length_once
+a_file_built_at_a_split_is_one_once = file_one
 
 -- the new file, less its new range, is its base
 pub a_file_at_a_split_keeps_its_bytes_taken : PieceIsTakenOut
@@ -110,7 +100,7 @@ a_file_at_a_split_keeps_its_bytes_taken = piece_out
 
 -- the new file, less its new range, is its base
 pub a_file_at_a_split_keeps_its_bytes_left : LeftKeeps
-a_file_at_a_split_keeps_its_bytes_left = left_keeps a_base_has_no_store_cut
+a_file_at_a_split_keeps_its_bytes_left = left_keeps
 
 -- the new file, less its new range, is its base
 pub a_file_at_a_split_keeps_its_bytes_file : SplitFileKeeps
@@ -126,4 +116,4 @@ a_split_is_refused_or_built_unrefused = room_unrefused
 
 -- something is refused of a store at a split exactly where there is no room for it
 pub a_split_is_refused_or_built_built : UnrefusedIsBuilt
-a_split_is_refused_or_built_built = unrefused_built the_file_of_a_content_meets_the_rules a_store_is_at_its_split_piece
+a_split_is_refused_or_built_built = unrefused_built

@@ -2,7 +2,6 @@
 use Rattle.c2_assertion.proofs.TheLaws.{a_written_data_hash_has_one_length_any}
 use Rattle.std.proofs.Common.{◌≡◌, ℕ, ◌+◌, ◌≤◌, List, [], ◌∷◌, ◌++◌, length, replicate, Some, refl, sym, ap, ◌∙◌, arith, codes}
 use Rattle.std.proofs.lemmas.List.{length-replicate}
-use Rattle.std.specs.Prelude.{Option}
 use Rattle.std.specs.Int.{w32, to_be_bytes}
 use Rattle.c2_base.specs.declared.limits.TheConstants.{MAX_STORE_LEN}
 use Rattle.c2_spec.proofs.Digests.{zero_len}
@@ -10,8 +9,6 @@ use Rattle.c2_spec.specs.declared.digest.Alg.{Alg}
 use Rattle.c2_spec.specs.C2pa.Manifest.{type_uuid}
 use Rattle.c2_spec.specs.Cover.{data_text}
 use Rattle.c2_spec.specs.Digest.{alg_name, zero_digest}
-use Rattle.c2_spec.specs.Jpeg.Segments.{Segment}
-use Rattle.c2_spec.specs.Jpeg.Places.{IsOfSegments, HasNumber}
 use Rattle.c2_spec.specs.Jpeg.Writing.{IsPacketStore}
 use Rattle.c2_spec.specs.Jumbf.Tree.{Tree, Trees, tree_bytes, trees_bytes, description_bytes}
 use Rattle.c2_spec.specs.Jumbf.Writing.{fresh_description}
@@ -64,13 +61,5 @@ pub covers_base : (start len : ℕ) (piece base : List ℕ) → start ≤ length
 covers_base start len piece base l e =
     kept_around (range_at start len) (put_in start piece base) (omega (arith, l, e, put_len start piece base))
     ∙ ap (λ n. taken_out start n (put_in start piece base)) e ∙ put_taken start piece base l
-
--- a file is one list of segments
-abbrev pub OneList : Type 0
-OneList = (file : List ℕ) (xs ys : List Segment) → IsOfSegments file xs → IsOfSegments file ys → xs ≡ ys
-
--- one number is free in a file, or none
-abbrev pub OneNumber : Type 0
-OneNumber = (file : List ℕ) (m n : Option ℕ) → HasNumber file m → HasNumber file n → m ≡ n
 
 -- ---- what a reader finds

@@ -5,7 +5,7 @@ use Rattle.std.specs.Bool.{MatchBool}
 use Rattle.c2_spec.specs.Container.{is_bmff}
 use Rattle.c2_spec.specs.Jpeg.Segments.{Segment}
 use Rattle.c2_spec.specs.PutIn.{taken_out}
-use Rattle.c2_bmff_insert_spec.specs.Laws.{BaseIsOne}
+use Rattle.c2_bmff_insert_spec.proofs.TheLaws.{a_base_has_no_store_once}
 use Rattle.c2_new_file_spec.specs.Bases.{IsLeftOfBoxes}
 use Rattle.c2_new_file_spec.specs.Laws.{OneLeft, OnePlace}
 use Rattle.c2_new_file_spec.specs.Places.{in_boxes, in_segments}
@@ -28,10 +28,10 @@ one_place base (in_boxes bs) (in_segments xs m) h k = not_both base k.0 h.0
 one_place base (in_boxes bs) (in_boxes cs) h k = ap in_boxes (roots_once base bs cs h.1 k.1)
 
 -- one file is left
-pub one_left : BaseIsOne → OneLeft
-one_left law media start len a b h k = go (is_bmff media) h k
+pub one_left : OneLeft
+one_left media start len a b h k = go (is_bmff media) h k
   where
     go : (t : Bool) → MatchBool t (IsLeftOfBoxes media a) (a ≡ taken_out start len media)
         → MatchBool t (IsLeftOfBoxes media b) (b ≡ taken_out start len media) → a ≡ b
-    go true x y = (law media a b x.0 y.0 x.1 y.1).0
+    go true x y = (a_base_has_no_store_once media a b x.0 y.0 x.1 y.1).0
     go false x y = x ∙ sym y

@@ -164,12 +164,6 @@ more_deep d e v g l = record { fits = g.fits; plain = g.plain; shallow = omega (
 
 -- ---- read back
 
--- what is written of a plain item is read
-abbrev pub RoundTrip : Type 0
-RoundTrip =
-    (v : Item) (s r : List ℕ) → Spells v s → length s < 2 ^ 64 → IsPlain v → BeginsWith (deterministic v ++ r)
-    (sorted v) (length (deterministic v))
-
 -- the deterministic bytes of a good item are that item, sorted
 pub good_read : (v : Item) → Good 64 v → length (deterministic v) < 2 ^ 64 → HasItem (deterministic v) (sorted v)
 good_read v g short =

@@ -16,10 +16,10 @@ use Rattle.c2_spec.specs.Located.{Located, Opening, absent, here, refused}
 use Rattle.c2_spec.specs.PutIn.{taken_out}
 use Rattle.c2_rules.specs.Opened.{IsBoxTree, IsManifestStore, IsManifestTree, IsOpened, Opens}
 use Rattle.c2_rules.proofs.JpegMedia.{no_bmff}
-use Rattle.c2_bmff_insert_spec.specs.Laws as boxed
-use Rattle.c2_new_file_spec.specs.Carrying.{BaseHasNoStore}
+use Rattle.c2_bmff_insert_spec.proofs.TheLaws.{a_base_has_no_store_none}
 use Rattle.c2_new_file_spec.specs.Films.{AreOthers}
 use Rattle.c2_new_file_spec.proofs.Media.{base_media}
+use Rattle.c2_new_file_spec.proofs.ParentLaws.{a_base_has_no_store}
 use Rattle.c2_new_file_spec.specs.Bases.{IsLeftOfBoxes}
 use Rattle.c2_new_file_spec.specs.Laws.{FreshHasPlace, LeftHasContainer, LeftHasPlace, SomeLeft}
 use Rattle.c2_new_file_spec.specs.Places.{IsFreePlace, Place, in_boxes, in_segments}
@@ -95,30 +95,30 @@ some_left media start len t o = go (is_bmff media) (is_stored media start len t 
     go false h = (taken_out start len media, refl)
 
 -- what is left has the container that the file had
-pub left_container : boxed.BaseHasNoStore → BaseHasNoStore → LeftHasContainer
-left_container boxes segments media start len t base o left = go (is_bmff media) refl (is_stored media start len t o) left
+pub left_container : LeftHasContainer
+left_container media start len t base o left = go (is_bmff media) refl (is_stored media start len t o) left
   where
     go : (b : Bool) → is_bmff media ≡ b
         → ((store : List ℕ) × MatchBool b (HasBmffStore media start len store) (jpeg.HasJpegStore media start len store))
         → MatchBool b (IsLeftOfBoxes media base) (base ≡ taken_out start len media)
         → is_bmff base ≡ is_bmff media
-    go true is h k = base_media media base k.0 k.1 (boxes media base k.0 k.1).0 is ∙ sym is
+    go true is h k = base_media media base k.0 k.1 (a_base_has_no_store_none media base k.0 k.1).0 is ∙ sym is
     go false is h k =
-        let free = segments media start len h.0 h.1 in
+        let free = a_base_has_no_store media start len h.0 h.1 in
         ap is_bmff k ∙ no_bmff (taken_out start len media) free.segments free.is_of.rest free.is_of.begins ∙ sym is
 
 -- what is left of a media file with a store has a place for another
-pub left_place : boxed.BaseHasNoStore → BaseHasNoStore → LeftHasPlace
-left_place boxes segments media start len t base o left = go (is_bmff media) refl (is_stored media start len t o) left
+pub left_place : LeftHasPlace
+left_place media start len t base o left = go (is_bmff media) refl (is_stored media start len t o) left
   where
     go : (b : Bool) → is_bmff media ≡ b
         → ((store : List ℕ) × MatchBool b (HasBmffStore media start len store) (jpeg.HasJpegStore media start len store))
         → MatchBool b (IsLeftOfBoxes media base) (base ≡ taken_out start len media)
         → (p : Place) × IsFreePlace base p
     go true is h k =
-        let has = boxes media base k.0 k.1 in
+        let has = a_base_has_no_store_none media base k.0 k.1 in
         of_boxes base k.0 (base_media media base k.0 k.1 has.0 is) has.0 has.1
     go false is h k =
-        let free = segments media start len h.0 h.1 in
+        let free = a_base_has_no_store media start len h.0 h.1 in
         subst (λ (b : List ℕ). (p : Place) × IsFreePlace b p) (sym k)
         (of_segments (taken_out start len media) free.segments free.is_of free.none)

@@ -23,10 +23,6 @@ use Rattle.c2_new_file_spec.proofs.BoxLemmas.{fresh_len, then_len}
 
 -- ---- items of one size
 
--- sorting keeps the length of each item's bytes
-abbrev pub KeepsLength : Type 0
-KeepsLength = (v : Item) → length (deterministic v) ≡ length (preferred v)
-
 -- two items are as long as each other
 abbrev SameLen : Item → Item → Type 0
 SameLen v w = length (preferred v) ≡ length (preferred w)

@@ -1,17 +1,17 @@
 -- A written data hash is read as that hash.
-use Rattle.std.proofs.Common.{◌≡◌, ◌↔◌, ℕ, ◌^◌, ◌<◌, ◌≤◌, List, [], ◌∷◌, length, map, replicate, Some, Ok, refl, subst, codes, lit≤}
+use Rattle.std.proofs.Common.{◌≡◌, ℕ, ◌^◌, ◌<◌, List, [], ◌∷◌, length, map, replicate, Some, Ok, refl, subst, codes, lit≤}
 use Rattle.std.specs.Str.{IsUtf8}
 use Rattle.c2_base.specs.declared.values.Range.{Range}
-use Rattle.c2_spec.specs.C2pa.Assertion.{data_hash_of, most_exclusions}
-use Rattle.c2_spec.specs.Cbor.Deterministic.{sorted, deterministic, shortest_head}
+use Rattle.c2_spec.specs.C2pa.Assertion.{data_hash_of}
+use Rattle.c2_spec.specs.Cbor.Deterministic.{deterministic, shortest_head}
 use Rattle.c2_spec.specs.Cbor.Fields.{HasItem}
 use Rattle.c2_spec.specs.Cbor.Item.{Item, uint, bytes, text, list}
 use Rattle.c2_spec.specs.Cbor.View.{items_of}
 use Rattle.c2_spec.specs.Cbor.Writing.{field}
 use Rattle.c2_spec.specs.declared.assertion.DataHash.{DataHash}
+use Rattle.c2_assertion.proofs.TheLaws.{a_written_data_hash_is_read, written_items_are_in_order_data}
 use Rattle.c2_assertion.specs.Written.{data_hash_item, range_item, one_exclusion, pad_len}
-use Rattle.c2_new_file_spec.proofs.GoodItems.{Good, good_text, good_bytes, good_uint, good_list, good_map, RoundTrip, good_read, more_deep, named_field}
-use Rattle.c2_new_file_spec.proofs.StoreSize.{KeepsLength}
+use Rattle.c2_new_file_spec.proofs.GoodItems.{Good, good_text, good_bytes, good_uint, good_list, good_map, good_read, more_deep, named_field}
 
 -- ---- the data hash
 
@@ -39,14 +39,6 @@ data_good alg hash r u s l =
       ),
     ) refl
 
--- what is read of a data hash that was written
-abbrev pub DataIsRead : Type 0
-DataIsRead = (h : DataHash) → (data_hash_of (data_hash_item h) ≡ Ok h) ↔ (length h.exclusions ≤ most_exclusions)
-
--- the fields of a data hash stand in deterministic order
-abbrev pub DataIsSorted : Type 0
-DataIsSorted = (h : DataHash) → sorted (data_hash_item h) ≡ data_hash_item h
-
 -- an item that is read as this data hash
 pub record IsDataHash (bytes : List ℕ) (h : DataHash) : Type 0 where
   pub item : Item
@@ -54,13 +46,14 @@ pub record IsDataHash (bytes : List ℕ) (h : DataHash) : Type 0 where
   pub is : data_hash_of item ≡ Ok h
 
 -- a written data hash with one such range is read as that data hash
-pub data_read : KeepsLength → RoundTrip → DataIsRead → DataIsSorted → (alg hash : List ℕ) (r : Range) → IsUtf8 alg
+pub data_read : (alg hash : List ℕ) (r : Range) → IsUtf8 alg
     → r.start < 2 ^ 64 → r.length < 2 ^ 64
     → length (deterministic (data_hash_item (one_exclusion (Some alg) hash r))) < 2 ^ 64
     → IsDataHash (deterministic (data_hash_item (one_exclusion (Some alg) hash r))) (one_exclusion (Some alg) hash r)
-data_read keeps trip back in_order alg hash r u s l short = record {
+data_read alg hash r u s l short = record {
   item = data_hash_item (one_exclusion (Some alg) hash r);
-  has = subst (HasItem (deterministic (data_hash_item (one_exclusion (Some alg) hash r)))) (in_order (one_exclusion (Some alg) hash r))
+  has = subst (HasItem (deterministic (data_hash_item (one_exclusion (Some alg) hash r))))
+      (written_items_are_in_order_data (one_exclusion (Some alg) hash r))
       (good_read (data_hash_item (one_exclusion (Some alg) hash r)) (more_deep 4 64 (data_hash_item (one_exclusion (Some alg) hash r)) (data_good alg hash r u s l) (lit≤ tt)) short);
-  is = (back (one_exclusion (Some alg) hash r)).1 (lit≤ tt);
+  is = (a_written_data_hash_is_read (one_exclusion (Some alg) hash r)).1 (lit≤ tt);
 }

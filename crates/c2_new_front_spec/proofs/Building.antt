@@ -1,6 +1,5 @@
 -- The built file is the one that its definition asks for, and holds the new store.
-use Rattle.c2_new_front_spec.proofs.InFront.{front_told}
-use Rattle.c2_new_front_spec.proofs.InFront.{front_found}
+use Rattle.c2_new_front_spec.proofs.InFront.{front_found, front_roots, front_told}
 use Rattle.c2_bmff_chunks.proofs.TheLaws.{a_shifted_file_has_its_boxes_apart, a_shifted_file_has_its_boxes_roots, a_shifted_file_is_one_once, a_shifted_file_is_one_some}
 use Rattle.c2_bmff_insert_spec.proofs.TheLaws.{a_put_store_is_not_covered_some, a_put_store_is_not_covered_text}
 use Rattle.std.proofs.Common.{◌≡◌, ℕ, ◌+◌, cond, List, [], ◌∷◌, length, map, Option, Some, None, refl, sym, ap, ap₂, ◌∙◌, subst, arith}
@@ -20,7 +19,7 @@ use Rattle.c2_new_file_spec.specs.Store.{Content, new_manifest, new_store, new_a
 use Rattle.c2_new_file_spec.specs.Films.{new_bmff_binding, bmff_len, bmff_store_size}
 use Rattle.c2_new_file_spec.proofs.Building.{boxed_store, bmff_fixed}
 use Rattle.c2_new_front_spec.specs.Fronts.{CanBuildFront, CoveredTextIsKnown, FrontHasItsStore, IsMovable, OneFront, SomeFront, front_covered, front_file, front_store, moved_media, moved_roots, tables_of}
-use Rattle.c2_new_front_spec.specs.InFront.{CanTakeFront, FrontHasRoots, HasFrontRoom, HoldsFrontStore, OnlyOthersAreCovered, front_place, front_with, open_first, others_text, put_in_front}
+use Rattle.c2_new_front_spec.specs.InFront.{CanTakeFront, HasFrontRoom, HoldsFrontStore, front_place, front_with, open_first, others_text, put_in_front}
 use Rattle.c2_spec.proofs.BmffShared.{c2pa_box_length}
 
 -- ---- the media with moved places
@@ -140,24 +139,25 @@ front_has hash c message media roots h can =
 -- ---- the covered text
 
 -- what the exclusions leave of a file with a store of the new store's size
-pub front_text_is : OnlyOthersAreCovered
-    → (c : Content) (reserve : ℕ) (media : List ℕ) (roots : List Box) (store : List ℕ) → IsMovable media roots
+pub front_text_is :
+    (c : Content) (reserve : ℕ) (media : List ℕ) (roots : List Box) (store : List ℕ) → IsMovable media roots
     → length store ≡ bmff_store_size c reserve
     → built_text (front_with store (moved_roots (bmff_len c reserve) media roots)) ≡ front_covered (bmff_len c reserve) media roots
-front_text_is told c reserve media roots store m size =
+front_text_is c reserve media roots store m size =
     let len : ℕ = bmff_len c reserve in
-    told (moved_media len media roots) (moved_roots len media roots) store (media_roots len media roots m).has_roots
+    front_told (moved_media len media roots) (moved_roots len media roots) store
+    (media_roots len media roots m).has_roots
     ∙ ap (λ n. others_text (c2pa_frame_len + n) (moved_roots len media roots)) size
 
 -- the covered text of the new file is known before the store
-pub front_known : OnlyOthersAreCovered → FrontHasRoots → CoveredTextIsKnown
-front_known told put c reserve media roots store can size =
+pub front_known : CoveredTextIsKnown
+front_known c reserve media roots store can size =
     let len : ℕ = bmff_len c reserve in
     let boxes : List Box = front_with store (moved_roots len media roots) in
     record {
       has_roots = subst (λ n. HasRoots (put_in n (box_bytes (c2pa_box store)) (moved_media len media roots)) boxes) (place_same len media roots can.movable)
-          (put (moved_media len media roots) (moved_roots len media roots) store (front_room c reserve media roots (length store) can size));
-      text = front_text_is told c reserve media roots store can.movable size;
+          (front_roots (moved_media len media roots) (moved_roots len media roots) store (front_room c reserve media roots (length store) can size));
+      text = front_text_is c reserve media roots store can.movable size;
     }
 
 -- ---- one file
@@ -175,7 +175,7 @@ front_is hash c message media roots h can =
     a_put_store_is_not_covered_some file boxes (length file) held.has_roots in
     let size : length store ≡ bmff_store_size c (length message) = store_size hash c message media roots h in
     let text : built_text boxes ≡ front_covered len media roots =
-    front_text_is front_told c (length message) media roots store can.movable size in
+    front_text_is c (length message) media roots store can.movable size in
     record {
       roots = roots;
       movable = can.movable;
@@ -235,7 +235,7 @@ front_once hash c message media f start len roots h can b =
     roots_once f b.boxes (front_with store moved) b.has_boxes
     (subst (λ (x : List ℕ). HasRoots x (front_with store moved)) (sym put) held.has_roots) in
     let text : b.text ≡ front_covered n media roots =
-    a_put_store_is_not_covered_text f b.boxes (length f) b.excluded b.text b.has_boxes b.covers ∙ ap built_text boxes ∙ front_text_is front_told c (length message) media roots store can.movable own in
+    a_put_store_is_not_covered_text f b.boxes (length f) b.excluded b.text b.has_boxes b.covers ∙ ap built_text boxes ∙ front_text_is c (length message) media roots store can.movable own in
     let stores : b.store ≡ front_store hash c message media roots =
     b.store_is
     ∙ ap (λ (x : List ℕ). new_store hash c (new_bmff_binding (new_alg c.definition) (hash x)) message) text in

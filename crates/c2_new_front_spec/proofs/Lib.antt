@@ -8,7 +8,6 @@ mod Rows
 pub mod Shifts
 pub mod SomeOutcome
 mod Splits
-pub mod Stages
 mod Staying
 pub mod TheLaws
 mod Unrefused

@@ -1,21 +1,12 @@
 -- A file that a build comes to meets the rules, and has the bytes and the chunks of the media.
-use Rattle.c2_bmff_chunks.proofs.TheLaws.{chunk_places_stay_true}
-use Rattle.c2_bmff_chunks.proofs.TheLaws.{a_shifted_file_has_its_boxes_behind}
-use Rattle.c2_new_front_spec.proofs.Staying.{front_chunks}
-use Rattle.c2_bmff_chunks.proofs.TheLaws.{a_shifted_file_has_its_boxes_apart}
-use Rattle.c2_new_front_spec.proofs.Staying.{front_bytes}
-use Rattle.c2_new_front_spec.proofs.Order.{unrefused_can}
-use Rattle.c2_new_file_spec.proofs.ParentLaws.{redactions_that_pass_may_be_made_none}
-use Rattle.c2_new_front_spec.proofs.Order.{can_fresh}
-use Rattle.c2_new_content_spec.proofs.SplitLaws.{a_content_meets_the_rules_fresh}
-use Rattle.c2_new_content_spec.proofs.SplitLaws.{the_file_of_a_content_meets_the_rules}
-use Rattle.c2_new_front_spec.proofs.Splits.{front_split}
+use Rattle.c2_new_front_spec.proofs.Staying.{front_bytes, front_chunks}
+use Rattle.c2_new_front_spec.proofs.Order.{can_fresh, unrefused_can}
 use Rattle.c2_new_front_spec.proofs.Meeting.{fresh_front}
-use Rattle.c2_new_front_spec.proofs.Building.{front_is}
-use Rattle.c2_new_front_spec.proofs.Building.{front_has}
+use Rattle.c2_new_front_spec.proofs.Building.{front_has, front_is}
 use Rattle.c2_definition.proofs.TheLaws.{definitions_are_well_formed}
 use Rattle.c2_new_signature.proofs.TheLaws.{accepted_messages_can_be_padded}
-use Rattle.c2_lemmas.proofs.Stages.{stage_value}
+use Rattle.c2_lemmas.proofs.Stages.{passed, stage_value, then_next, unless_passed, unless_passes}
+use Rattle.c2_lemmas.proofs.Lists.{both_none}
 use Rattle.std.proofs.Common.{◌≡◌, ◌⊎◌, inl, inr, ℕ, List, [], ◌∷◌, length, refl, sym, ap, ◌∙◌, subst}
 use Rattle.std.specs.Prelude.{Result, Ok, Err}
 use Rattle.c2_base.specs.declared.values.Question.{Question}
@@ -41,11 +32,9 @@ use Rattle.c2_new_front_spec.specs.Fronts.{CanBuildFront, IsFrontBuilt, front_co
 use Rattle.c2_new_front_spec.specs.Made.{BytesAreThere, ChunksAreThere, ChunksAreThereOrRefused, FrontMeets, HasTextsIn, MadeFrontMeets}
 use Rattle.c2_new_front_spec.specs.Meeting.{front_question}
 use Rattle.c2_new_front_spec.specs.Order.{CanPlanFront, FrontRefusal, bad_definition, bad_signature, bmff_refusals, front_refusals, plan_refusals, reserve_refusals}
-use Rattle.c2_new_front_spec.specs.Outcomes.{IsDefinitionStage, IsBmffStage, IsFrontMade, IsFrontPlanned, IsMediaStage, IsMessageStage, IsNewFile, IsPlannedIn, IsPlannedOver, NewFile, SomeFrontMade, front_signed, new_file}
+use Rattle.c2_new_front_spec.specs.Outcomes.{IsDefinitionStage, IsBmffStage, IsFrontMade, IsFrontPlanned, IsMediaStage, IsMessageStage, IsNewFile, IsPlannedIn, IsPlannedOver, NewFile, front_signed, new_file}
 use Rattle.c2_new_signature.specs.Message.{IsMessageRead}
-use Rattle.c2_new_front_spec.proofs.Shifts.{both_none}
-use Rattle.c2_new_front_spec.proofs.SomeOutcome.{FreeRoots, free_roots}
-use Rattle.c2_new_front_spec.proofs.Stages.{passed, then_next, unless_passed, unless_passes}
+use Rattle.c2_new_front_spec.proofs.SomeOutcome.{FreeRoots, free_roots, some_file}
 
 -- ---- what is known
 
@@ -155,7 +144,7 @@ chunks_of : (hash : List ℕ → List ℕ) (c : Content) (message media : List �
 chunks_of hash c message media roots b has built =
     subst (λ (boxes : List Box). ChunksAreThere media boxes b)
     (roots_once media built.roots roots built.movable.has_roots has)
-    (λ f v held is from within. (front_chunks a_shifted_file_has_its_boxes_behind chunk_places_stay_true) hash c message media b.file b.start b.len built f v held is from within)
+    (λ f v held is from within. front_chunks hash c message media b.file b.start b.len built f v held is from within)
 
 -- the bytes of the media are in a built file
 bytes_of : (hash : List ℕ → List ℕ) (c : Content) (message media : List ℕ) (roots : List Box) (b : NewFile)
@@ -164,7 +153,7 @@ bytes_of : (hash : List ℕ → List ℕ) (c : Content) (message media : List �
 bytes_of hash c message media roots b has built =
     subst (λ (boxes : List Box). BytesAreThere media boxes b)
     (roots_once media built.roots roots built.movable.has_roots has)
-    (λ i within low. (front_bytes a_shifted_file_has_its_boxes_apart) hash c message media b.file b.start b.len built i within low)
+    (λ i within low. front_bytes hash c message media b.file b.start b.len built i within low)
 
 -- a file that is built meets all of it
 meets_of : (hash : Alg → List ℕ → List ℕ) (media definition message : List ℕ) (b : NewFile) → GivesDigests hash
@@ -193,7 +182,8 @@ meets_of hash media definition message b digests texts bytes k =
     let built : IsFrontBuilt h c k.signed media new.file new.start new.len =
     front_is h c k.signed media k.roots sized fits in
     let meets : MeetsTheRules hash new.file new.start new.len store (q ∷ []) =
-    (fresh_front front_split the_file_of_a_content_meets_the_rules a_content_meets_the_rules_fresh) hash c k.signed media k.roots read digests ((can_fresh redactions_that_pass_may_be_made_none) media k.roots d can) writable fits k.is_signed.spelled in
+    fresh_front hash c k.signed media k.roots read digests (can_fresh media k.roots d can) writable fits
+    k.is_signed.spelled in
     record {
       new = d;
       defined = defined;
@@ -226,12 +216,14 @@ made_meets hash media definition message b digests texts bytes h =
     (meets_of hash media definition message b digests texts bytes k)
 
 -- the chunks of the media are there in the built file, or the build comes to a refusal
-pub chunks_or_refused : SomeFrontMade → MadeFrontMeets → ChunksAreThereOrRefused
-chunks_or_refused some meets hash media definition message what opened digests texts bytes are =
-    let r = some hash media definition message what opened are in by r.0 r.1
+pub chunks_or_refused : ChunksAreThereOrRefused
+chunks_or_refused hash media definition message what opened digests texts bytes are =
+    let r = some_file hash media definition message what opened are in by r.0 r.1
   where
     by : (r : Result NewFile FrontRefusal) → IsFrontMade hash media definition message r
         → ((refusal : FrontRefusal) × IsFrontMade hash media definition message (Err refusal))
         ⊎ ((b : NewFile) × IsFrontMade hash media definition message (Ok b) × ((roots : List Box) × HasRoots media roots × ChunksAreThere media roots b))
     by (Err e) h = inl (e, h)
-    by (Ok b) h = let m = meets hash media definition message b digests texts bytes h in inr (b, h, (m.roots, m.has_roots, m.chunks))
+    by (Ok b) h =
+        let m = made_meets hash media definition message b digests texts bytes h in
+        inr (b, h, (m.roots, m.has_roots, m.chunks))

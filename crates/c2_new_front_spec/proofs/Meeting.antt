@@ -17,15 +17,17 @@ use Rattle.c2_new_file_spec.specs.Films.{new_bmff_binding, bmff_len, bmff_store_
 use Rattle.c2_new_front_spec.specs.Fronts.{front_file, front_store, moved_media, moved_roots, tables_of}
 use Rattle.c2_new_front_spec.specs.InFront.{front_place, others_text}
 use Rattle.c2_new_front_spec.specs.Meeting.{FreshFrontMeets, front_question}
-use Rattle.c2_new_content_spec.specs.Contents.{ContentFileMeets, FreshContentMeets, content_store}
+use Rattle.c2_new_content_spec.specs.Contents.{content_store}
 use Rattle.c2_new_content_spec.specs.Splits.{HasRoomFor, split_text}
-use Rattle.c2_new_front_spec.specs.Splits.{FrontIsSplit, IsFrontSplit, front_split}
+use Rattle.c2_new_front_spec.specs.Splits.{IsFrontSplit, front_split}
+use Rattle.c2_new_content_spec.proofs.SplitLaws.{a_content_meets_the_rules_fresh, the_file_of_a_content_meets_the_rules}
 use Rattle.c2_spec.proofs.Containers.{same_media}
 use Rattle.c2_new_front_spec.proofs.Building.{media_shifts, open_by}
+use Rattle.c2_new_front_spec.proofs.Splits.{front_split as first_split}
 
 -- the file is built over it, at the split behind the first root box of that
-pub fresh_front : FrontIsSplit → ContentFileMeets → FreshContentMeets → FreshFrontMeets
-fresh_front is files fresh hash c message media roots parts digests is_fresh w can spells =
+pub fresh_front : FreshFrontMeets
+fresh_front hash c message media roots parts digests is_fresh w can spells =
     let alg : Alg = new_alg c.definition in
     let h : List ℕ → List ℕ = hash alg in
     let len : ℕ = bmff_len c (length message) in
@@ -37,7 +39,7 @@ fresh_front is files fresh hash c message media roots parts digests is_fresh w c
     let boxes : HasShiftedRoots media base roots =
     a_shifted_file_has_its_boxes_roots (front_place roots) len media base roots m.bytes m.has_roots m.unrefused shifted in
     let film : is_bmff base ≡ true = same_media base media boxes.starts m.film boxes.has_roots.begins in
-    let at : IsFrontSplit base moved = is base moved film boxes.has_roots (boxes.others m.none) in
+    let at : IsFrontSplit base moved = first_split base moved film boxes.has_roots (boxes.others m.none) in
     let room : HasRoomFor base (front_split moved) (bmff_store_size c (length message)) = record {
       split = at.split;
       room = at.room (open_by moved roots boxes.forms m.closed) (omega (arith, can.few, boxes.count));
@@ -47,9 +49,11 @@ fresh_front is files fresh hash c message media roots parts digests is_fresh w c
     let text : split_text base (front_split moved) len ≡ others_text len moved = at.text len in
     let store : Tree = front_store h c message media roots in
     let met =
-    files hash c message base (box_bytes (c2pa_box (tree_bytes (content_store h c message base (front_split moved)))))
+    the_file_of_a_content_meets_the_rules hash c message base
+    (box_bytes (c2pa_box (tree_bytes (content_store h c message base (front_split moved)))))
     (front_split moved) parts [] digests
-    (fresh hash c message parts is_fresh w spells) (record { room = room; free = at.free }) refl in
+    (a_content_meets_the_rules_fresh hash c message parts is_fresh w spells)
+    (record { room = room; free = at.free }) refl in
     let piece : List ℕ = box_bytes (c2pa_box (tree_bytes store)) in
     let file : put_in (front_place moved) piece base ≡ front_file h c message media roots = cc (boxes.first) in
     let qs : List Question = front_question h c (length message) media roots parts ∷ [] in

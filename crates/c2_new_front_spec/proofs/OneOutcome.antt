@@ -1,7 +1,7 @@
 -- Inputs whose media file is opened as one thing come to one plan and to one new file.
-use Rattle.c2_new_signature.proofs.TheLaws.{a_message_fills_its_reserve_or_needs_more, each_message_is_accepted_or_refused_for_one_test, one_message_read}
+use Rattle.c2_new_signature.proofs.TheLaws.{a_message_fills_its_reserve_or_needs_more, one_message_read}
 use Rattle.c2_definition.proofs.TheLaws.{each_definition_is_read_one_way_one}
-use Rattle.c2_lemmas.proofs.Stages.{one_stage}
+use Rattle.c2_lemmas.proofs.Stages.{IsOne, one_stage, one_then, one_unless, one_value}
 use Rattle.std.proofs.Common.{◌≡◌, ℕ, List, sym, ap, ◌∙◌}
 use Rattle.std.specs.Prelude.{Ok}
 use Rattle.c2_spec.specs.Bmff.Boxes.{Box, HasRoots}
@@ -13,12 +13,10 @@ use Rattle.c2_spec.proofs.BmffOneList.{roots_once}
 use Rattle.c2_rules.specs.Opened.{IsOpened}
 use Rattle.c2_definition.specs.DefinitionFile.{IsDefinition}
 use Rattle.c2_definition.specs.declared.types.Definition.{Definition}
-use Rattle.c2_new_signature.specs.Signed.{FillsOrNeedsMore}
 use Rattle.c2_new_front_spec.specs.Order.{bmff_refusals, front_refusals, plan_refusals}
 use Rattle.c2_new_front_spec.specs.Outcomes.{IsDefinitionStage, IsBmffStage, IsMadeIn, IsMadeOver, IsMediaStage, IsMessageStage, IsNewFile, IsPlannedIn, IsPlannedOver}
 use Rattle.c2_new_signature.specs.Message.{IsMessageRead}
 use Rattle.c2_new_front_spec.specs.Outcomes.{OneFrontMade, OneFrontPlan, definition_stage, front_signed, media_stage, message_stage, new_file}
-use Rattle.c2_new_front_spec.proofs.Stages.{IsOne, one_then, one_unless, one_value}
 
 -- ---- stages
 
@@ -29,11 +27,13 @@ one_bmff_file media what =
     (λ r s h k. h.2 ∙ ap (λ (x : List Box). Ok x) (roots_once media h.0 k.0 h.1 k.1) ∙ sym k.2)
 
 -- one new file is built
-one_made : FillsOrNeedsMore
-    → (hash : Alg → List ℕ → List ℕ) (media : List ℕ) (d : Definition) (m : SignParts) (roots : List Box)
+one_made :
+    (hash : Alg → List ℕ → List ℕ) (media : List ℕ) (d : Definition) (m : SignParts) (roots : List Box)
     → IsOne (IsNewFile hash media d m roots)
-one_made fills hash media d m roots r s h k =
-    h.2 ∙ ap (λ (x : List ℕ). Ok (new_file hash media roots d x)) (fills.one m d.reserve h.0 k.0 h.1 k.1) ∙ sym k.2
+one_made hash media d m roots r s h k =
+    h.2
+    ∙ ap (λ (x : List ℕ). Ok (new_file hash media roots d x))
+    (a_message_fills_its_reserve_or_needs_more.one m d.reserve h.0 k.0 h.1 k.1) ∙ sym k.2
 
 -- ---- both calls
 
@@ -56,6 +56,6 @@ one_file hash media definition message a b once =
     (one_stage definition_stage (IsDefinition definition) (each_definition_is_read_one_way_one definition)) (λ d.
     one_then (IsMessageStage d.protected message) _
     (one_stage message_stage (IsMessageRead d.protected message)
-    (one_message_read each_message_is_accepted_or_refused_for_one_test d.protected message)) (λ m.
+    (one_message_read d.protected message)) (λ m.
     one_then (IsBmffStage media what) (IsMadeIn hash media d m) (one_bmff_file media what) (λ roots.
-    one_unless (front_refusals media roots d m) (IsNewFile hash media d m roots) (one_made a_message_fills_its_reserve_or_needs_more hash media d m roots))))) a b
+    one_unless (front_refusals media roots d m) (IsNewFile hash media d m roots) (one_made hash media d m roots))))) a b

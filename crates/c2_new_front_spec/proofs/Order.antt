@@ -10,20 +10,22 @@ use Rattle.c2_spec.specs.declared.reason.Reason.TheVariants.{FileTooLarge, TooMa
 use Rattle.c2_bmff_rows.specs.Rows.{rows_of}
 use Rattle.c2_bmff_chunks.specs.Fields.{overflow_places}
 use Rattle.c2_bmff_chunks.specs.Refusals.{shift_refusals}
+use Rattle.c2_new_signature.proofs.TheLaws.{a_message_fills_its_reserve_or_needs_more}
 use Rattle.c2_new_signature.specs.Refusals.{reserve_needed}
-use Rattle.c2_new_signature.specs.Signed.{FillsOrNeedsMore, IsSigned}
+use Rattle.c2_new_signature.specs.Signed.{IsSigned}
 use Rattle.c2_new_file_spec.specs.Fresh.{fresh_content}
-use Rattle.c2_new_file_spec.specs.Carrying.{FirstIsRefused}
+use Rattle.c2_new_file_spec.proofs.ParentLaws.{redactions_that_pass_may_be_made_none}
 use Rattle.c2_new_file_spec.specs.Refusing.{redaction_refusal}
 use Rattle.c2_new_file_spec.specs.declared.refused.RefusedRedaction.{RefusedRedaction}
 use Rattle.c2_new_file_spec.specs.Films.{bmff_len, bmff_store_size}
-use Rattle.c2_new_front_spec.specs.Fronts.{CanBuildFront, SomeFront, front_file, tables_of}
+use Rattle.c2_new_front_spec.specs.Fronts.{CanBuildFront, front_file, tables_of}
 use Rattle.c2_new_front_spec.specs.InFront.{front_place, open_first}
 use Rattle.c2_new_front_spec.specs.Order.{BuiltIsNotRefused, CanPlanFront, FrontRefusal, IsFrontFile, NothingRefusedIsBuilt, PlannedIsFresh, PlannedIsNotRefused, UnrefusedCanBePlanned}
 use Rattle.c2_new_front_spec.specs.Order.{media_refused, open_box, overflow, overflow_refusals, plan_refusals, redaction_refused, reserve_too_small, shift_refusal, size_refusals, store_too_large}
-use Rattle.c2_new_front_spec.proofs.Shifts.{both_none, none_shifted}
-use Rattle.c2_new_front_spec.proofs.Stages.{none_both}
+use Rattle.c2_new_front_spec.proofs.Building.{front_is}
+use Rattle.c2_new_front_spec.proofs.Shifts.{none_shifted}
 use Rattle.c2_lemmas.proofs.Options.{never_some}
+use Rattle.c2_lemmas.proofs.Lists.{both_none, none_both}
 
 -- ---- no refusal
 
@@ -103,38 +105,42 @@ can_unrefused media roots d h =
     (none_both (size_refusals store file (length roots)) (overflow_refusals len media roots) sizes moves)))
 
 -- where a file can be planned, the definition redacts nothing
-pub can_fresh : FirstIsRefused → PlannedIsFresh
-can_fresh first media roots d h = record { carried = refl; ingredients = refl; redact = by d.redact refl }
+pub can_fresh : PlannedIsFresh
+can_fresh media roots d h = record { carried = refl; ingredients = refl; redact = by d.redact refl }
   where
     by : (texts : List (List ℕ)) → d.redact ≡ texts → d.redact ≡ []
     by [] e = e
     by (t ∷ ts) e =
         let bad =
-        sym h.redactions ∙ ap (λ (xs : List (List ℕ)). redaction_refusal d.label [] xs) e ∙ first d.label t ts in
+        sym h.redactions ∙ ap (λ (xs : List (List ℕ)). redaction_refusal d.label [] xs) e
+        ∙ redactions_that_pass_may_be_made_none d.label t ts in
         absurd (cc (bad))
 
 -- ---- with a message
 
 -- where nothing is refused, the message fills what is reserved for it, and the file is built with it
-pub nothing_refused : FillsOrNeedsMore → SomeFront → NothingRefusedIsBuilt
-nothing_refused fills is hash d bytes p media roots h pads film are has none e =
+pub nothing_refused : NothingRefusedIsBuilt
+nothing_refused hash d bytes p media roots h pads film are has none e =
     let both = both_none (plan_refusals media roots d) _ e in
     let can : CanPlanFront media roots d = unrefused_can media roots d film are has none both.0 in
     let enough : reserve_needed d.reserve (length (bare_bytes p)) ≡ None =
     none_told reserve_too_small (reserve_needed d.reserve (length (bare_bytes p))) both.1 in
-    ⊎_elim (λ s. made can s) (λ n. absurd (let bad = sym enough ∙ n.1 in cc (bad))) (fills.either bytes p d.reserve pads)
+    ⊎_elim (λ s. made can s) (λ n. absurd (let bad = sym enough ∙ n.1 in cc (bad)))
+    (a_message_fills_its_reserve_or_needs_more.either bytes p d.reserve pads)
   where
     made : CanPlanFront media roots d → (message : List ℕ) × IsSigned p d.reserve message
         → (file : List ℕ) × IsFrontFile hash d p media roots file
     made can s =
         let fits : CanBuildFront (fresh_content d) (length s.0) media roots =
         subst (λ n. CanBuildFront (fresh_content d) n media roots) (sym s.1.filled) can.can in
-        (front_file hash (fresh_content d) s.0 media roots, record { can = can; message = s.0; signed = s.1; built = is hash (fresh_content d) s.0 media roots h fits })
+        (front_file hash (fresh_content d) s.0 media roots, record { can = can; message = s.0; signed = s.1; built = front_is hash (fresh_content d) s.0 media roots h fits })
 
 -- where a file is built, nothing is refused
-pub built_not_refused : FillsOrNeedsMore → BuiltIsNotRefused
-built_not_refused fills hash d p media roots file b =
+pub built_not_refused : BuiltIsNotRefused
+built_not_refused hash d p media roots file b =
     let needed : Option ℕ = reserve_needed d.reserve (length (bare_bytes p)) in
-    let enough : needed ≡ None = never_some needed (λ n e. fills.never_both p d.reserve b.message b.signed (n, e)) in
+    let enough : needed ≡ None =
+    never_some needed
+    (λ n e. a_message_fills_its_reserve_or_needs_more.never_both p d.reserve b.message b.signed (n, e)) in
     none_both (plan_refusals media roots d) _ (can_unrefused media roots d b.can)
     (ap (λ (o : Option ℕ). option_to_list (option_map reserve_too_small o)) enough)

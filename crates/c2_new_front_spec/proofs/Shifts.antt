@@ -2,20 +2,14 @@
 use Rattle.std.proofs.Common.{◌≡◌, ℕ, Bool, true, false, cond, List, [], ◌∷◌, ◌++◌, Option, Some, None, codes, bytes_eq, refl}
 use Rattle.std.specs.List.{AllByRecursion, flat_map}
 use Rattle.std.specs.Option.{option_map_or}
+use Rattle.c2_lemmas.proofs.Lists.{both_none}
 use Rattle.c2_bmff_rows.specs.Rows.{payload_at}
 use Rattle.c2_bmff_rows.specs.declared.row.RootBox.{RootBox}
 use Rattle.c2_bmff_chunks.specs.Refusals.{is_other_table, refusals_below, root_refusals, shift_refusals, sibling_refusals}
 use Rattle.c2_bmff_chunks.specs.Tables.{inner, is_table, is_table_kind, table_path, wide_kind}
 use Rattle.c2_bmff_chunks.specs.declared.table.ShiftError.{ShiftError}
 use Rattle.c2_bmff_chunks.specs.declared.table.ShiftError.TheVariants.{OffsetTable, BadTree, BadTable}
-use Rattle.c2_new_front_spec.specs.Order.{FrontRefusal, shift_refusal}
-
--- ---- lists of refusals
-
--- two lists that are empty together
-pub both_none : (xs ys : List FrontRefusal) → xs ++ ys ≡ [] → (xs ≡ []) × (ys ≡ [])
-both_none [] ys e = (refl, e)
-both_none (x ∷ xs) ys e = absurd (cc (e))
+use Rattle.c2_new_front_spec.specs.Order.{shift_refusal}
 
 -- ---- errors that are refusals
 

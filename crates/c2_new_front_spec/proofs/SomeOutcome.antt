@@ -1,8 +1,9 @@
 -- Inputs whose media file is opened as something come to some plan and to some new file, or to what refuses them.
 use Rattle.c2_definition.proofs.TheLaws.{definitions_are_well_formed, each_definition_is_read_one_way_some}
-use Rattle.c2_new_signature.proofs.TheLaws.{a_message_fills_its_reserve_or_needs_more, accepted_paddable, each_message_is_accepted_or_refused_for_one_test, some_message_read}
+use Rattle.c2_new_signature.proofs.TheLaws.{a_message_fills_its_reserve_or_needs_more, accepted_paddable, some_message_read}
 use Rattle.c2_lemmas.proofs.Options.{listed_some}
-use Rattle.c2_lemmas.proofs.Stages.{some_stage, stage_value}
+use Rattle.c2_lemmas.proofs.Stages.{Something, some_stage, some_then, some_unless, stage_value}
+use Rattle.c2_lemmas.proofs.Lists.{both_none}
 use Rattle.std.proofs.Common.{◌≡◌, ◌⊎◌, inl, inr, ℕ, Bool, true, false, cond, List, [], ◌∷◌, length, refl, ap, ◌∙◌, subst}
 use Rattle.std.specs.Bool.{MatchBool}
 use Rattle.std.specs.Prelude.{Result, Ok}
@@ -19,21 +20,13 @@ use Rattle.c2_rules.specs.Opened.{IsOpened}
 use Rattle.c2_definition.specs.DefinitionFile.{IsDefinition, IsWellFormed}
 use Rattle.c2_definition.specs.declared.types.Definition.{Definition}
 use Rattle.c2_new_signature.specs.Refusals.{reserve_needed}
-use Rattle.c2_new_signature.specs.Signed.{FillsOrNeedsMore, IsSigned, NeedsMore}
+use Rattle.c2_new_signature.specs.Signed.{IsSigned, NeedsMore}
 use Rattle.c2_new_file_spec.specs.Films.{AreOthers}
 use Rattle.c2_new_front_spec.specs.Order.{FrontRefusal, bad_definition, bad_signature, bmff_refusals, front_refusals, not_bmff, plan_refusals, reserve_refusals, reserve_too_small, store_refusals}
 use Rattle.c2_new_front_spec.specs.Outcomes.{IsDefinitionStage, IsBmffStage, IsMadeIn, IsMadeOver, IsMediaStage, IsMessageStage, IsNewFile, IsPlannedIn, IsPlannedOver}
 use Rattle.c2_new_signature.specs.Message.{IsMessageRead}
 use Rattle.c2_new_front_spec.specs.Outcomes.{SomeFrontMade, SomeFrontPlan, definition_stage, front_signed, media_stage, message_stage, new_file}
-use Rattle.c2_new_front_spec.proofs.Shifts.{both_none}
-use Rattle.c2_new_front_spec.proofs.Stages.{Something, some_then, some_unless}
 use Rattle.c2_rules.proofs.OpenedStore.{located_absent}
-
--- ---- what laws of other crates say
-
--- a definition that a file is is well formed
-abbrev pub AreWellFormed : Type 0
-AreWellFormed = (file : List ℕ) (d : Definition) → IsDefinition file (Ok d) → IsWellFormed d
 
 -- ---- the media
 
@@ -92,14 +85,15 @@ some_bmff media what m =
 -- ---- the new file
 
 -- a file is built where nothing is refused
-some_made : FillsOrNeedsMore
-    → (hash : Alg → List ℕ → List ℕ) (media bytes : List ℕ) (d : Definition) (m : SignParts) (roots : List Box)
+some_made :
+    (hash : Alg → List ℕ → List ℕ) (media bytes : List ℕ) (d : Definition) (m : SignParts) (roots : List Box)
     → IsMessageRead d.protected bytes (Ok m) → IsWellFormed d
     → front_refusals media roots d m ≡ [] → Something (IsNewFile hash media d m roots)
-some_made fills hash media bytes d m roots taken formed none =
+some_made hash media bytes d m roots taken formed none =
     let both = both_none (plan_refusals media roots d) (reserve_refusals d m) none in
     by both.1
-    (fills.either bytes m d.reserve (accepted_paddable d.protected bytes m d.reserve taken.0 taken.1 formed.most))
+    (a_message_fills_its_reserve_or_needs_more.either bytes m d.reserve
+    (accepted_paddable d.protected bytes m d.reserve taken.0 taken.1 formed.most))
   where
     by : reserve_refusals d m ≡ [] → ((message : List ℕ) × IsSigned m d.reserve message) ⊎ NeedsMore m d.reserve
         → Something (IsNewFile hash media d m roots)
@@ -126,9 +120,9 @@ some_file hash media definition message what opened are =
     (some_stage definition_stage (IsDefinition definition) (each_definition_is_read_one_way_some definition)) (λ d is_d.
     some_then (IsMessageStage d.protected message) _
     (some_stage message_stage (IsMessageRead d.protected message)
-    (some_message_read each_message_is_accepted_or_refused_for_one_test d.protected message are)) (λ m is_m.
+    (some_message_read d.protected message are)) (λ m is_m.
     some_then (IsBmffStage media kind) (IsMadeIn hash media d m) (some_bmff media kind is_media) (λ roots is_bmff_file.
     some_unless (front_refusals media roots d m) (IsNewFile hash media d m roots)
-    (some_made a_message_fills_its_reserve_or_needs_more hash media message d m roots
+    (some_made hash media message d m roots
     (stage_value bad_signature (IsMessageRead d.protected message) m is_m)
     (definitions_are_well_formed definition d (stage_value bad_definition (IsDefinition definition) d is_d)))))))

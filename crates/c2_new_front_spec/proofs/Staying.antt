@@ -10,27 +10,28 @@ use Rattle.c2_spec.specs.PutIn.{put_in}
 use Rattle.c2_lemmas.proofs.Bytes.{are_bytes, bytes-drop, bytes-take}
 use Rattle.c2_bmff_rows.proofs.PathRows.{from_member, to_member}
 use Rattle.c2_bmff_chunks.specs.Fields.{Covers, all_fields, field_limit, moved, number_at, number_bytes, overflow_places}
-use Rattle.c2_bmff_chunks.specs.Laws.{AreBytes, ChunkStays, ChunksStay, FieldsLieBehind, TablesStandApart}
+use Rattle.c2_bmff_chunks.specs.Laws.{AreBytes, ChunkStays}
 use Rattle.c2_bmff_chunks.specs.Shifted.{IsShifted}
 use Rattle.c2_bmff_chunks.specs.Tables.{StandApart, field_len}
 use Rattle.c2_bmff_chunks.specs.declared.table.ChunkTable.{ChunkTable}
 use Rattle.c2_bmff_chunks.specs.declared.table.Field.{Field}
 use Rattle.c2_bmff_chunks.proofs.FieldLemmas.{member_within, number_of, number_told, tables_apart}
 use Rattle.c2_bmff_chunks.proofs.ShiftLemmas.{put_in_behind}
+use Rattle.c2_bmff_chunks.proofs.TheLaws.{a_shifted_file_has_its_boxes_apart, a_shifted_file_has_its_boxes_behind, chunk_places_stay_true}
 use Rattle.c2_new_front_spec.specs.Fronts.{tables_of}
 use Rattle.c2_new_front_spec.specs.Meeting.{BytesOfFrontStay, ChunkIsThere, ChunksOfFrontStay, place_in_front}
 use Rattle.c2_new_front_spec.proofs.InFront.{place_in}
 use Rattle.c2_bmff_chunks.proofs.ShiftLemmas.{held_or_not}
 
 -- each field of a chunk table tells where its byte is
-pub front_chunks : FieldsLieBehind → ChunksStay → ChunksOfFrontStay
-front_chunks behind stay hash c message media file start len b f v has is from within =
+pub front_chunks : ChunksOfFrontStay
+front_chunks hash c message media file start len b f v has is from within =
     let piece : List ℕ = box_bytes (c2pa_box (tree_bytes b.store)) in
     let tables : List ChunkTable = tables_of media b.roots in
     let far : boxes_len (take 1 b.roots) ≤ f.at =
-    behind media b.roots f b.movable.bytes b.movable.has_roots b.movable.unrefused has in
+    a_shifted_file_has_its_boxes_behind media b.roots f b.movable.bytes b.movable.has_roots b.movable.unrefused has in
     let stays : ChunkStays start piece media b.base tables f v =
-    stay start piece media b.base tables f v (omega (arith, from, within))
+    chunk_places_stay_true start piece media b.base tables f v (omega (arith, from, within))
     (ap (λ n. overflow_places start n media tables) (sym b.size) ∙ b.moves)
     (subst (λ n. IsShifted start n tables media b.base) b.size b.shifts) has (omega (arith, far, b.place)) is from within in
     let there : ChunkIsThere media (put_in start piece b.base) (length piece) tables f v =
@@ -108,8 +109,8 @@ unmoved_byte start len i tables media base bytes apart s low =
     (held_or_not fs i)
 
 -- the built file has each byte of the media that lies in no moved field
-pub front_bytes : TablesStandApart → BytesOfFrontStay
-front_bytes apart hash c message media file start len b i within low =
+pub front_bytes : BytesOfFrontStay
+front_bytes hash c message media file start len b i within low =
     let piece : List ℕ = box_bytes (c2pa_box (tree_bytes b.store)) in
     let inside : start ≤ length b.base =
     omega (arith, b.place, b.shifts.size, place_in media b.roots b.movable.has_roots) in
@@ -117,7 +118,8 @@ front_bytes apart hash c message media file start len b i within low =
     ap (λ (f : List ℕ). get_or f (place_in_front start len i) 0) b.put ∙ ap (λ n. get_or (put_in start piece b.base) (place_in_front start n i) 0) b.size in
     put ∙ ⊎_elim (λ l. front piece inside l) (λ g. behind piece inside g) (cases_lt i start)
     ∙ unmoved_byte start len i (tables_of media b.roots) media b.base b.movable.bytes
-    (apart media b.roots b.movable.bytes b.movable.has_roots b.movable.unrefused) b.shifts low
+    (a_shifted_file_has_its_boxes_apart media b.roots b.movable.bytes b.movable.has_roots b.movable.unrefused)
+    b.shifts low
   where
     front : (piece : List ℕ) → start ≤ length b.base → i < start
         → get_or (put_in start piece b.base) (place_in_front start (length piece) i) 0 ≡ get_or b.base i 0

@@ -1,5 +1,4 @@
 -- The laws of this crate, for the proofs of the crates above it.
-use Rattle.c2_bmff_chunks.proofs.TheLaws.{a_shifted_file_has_its_boxes_apart, a_shifted_file_has_its_boxes_behind, chunk_places_stay_true}
 use Rattle.c2_new_front_spec.proofs.Building.{front_has, front_is, front_known, front_once}
 use Rattle.c2_new_front_spec.proofs.InFront.{front_found, front_roots, front_told}
 use Rattle.c2_new_front_spec.proofs.Made.{chunks_or_refused, made_meets}
@@ -17,9 +16,6 @@ use Rattle.c2_new_front_spec.specs.Meeting.{BytesOfFrontStay, ChunksOfFrontStay,
 use Rattle.c2_new_front_spec.specs.Order.{BuiltIsNotRefused, NothingRefusedIsBuilt, PlannedIsFresh, PlannedIsNotRefused, UnrefusedCanBePlanned}
 use Rattle.c2_new_front_spec.specs.Outcomes.{OneFrontMade, OneFrontPlan, SomeFrontMade, SomeFrontPlan}
 use Rattle.c2_new_front_spec.specs.Splits.{FrontIsSplit}
-use Rattle.c2_new_signature.proofs.TheLaws.{a_message_fills_its_reserve_or_needs_more}
-use Rattle.c2_new_content_spec.proofs.SplitLaws.{a_content_meets_the_rules_fresh, the_file_of_a_content_meets_the_rules}
-use Rattle.c2_new_file_spec.proofs.ParentLaws.{redactions_that_pass_may_be_made_none}
 
 -- a file that a store is put into after its first root box has the root boxes that it had and the store's box there
 pub a_store_in_front_is_found_roots : FrontHasRoots
@@ -43,7 +39,7 @@ a_built_front_is_one_once = front_once
 
 -- where bytes are put into the media with moved places, behind its file type box, in the box of a store and as many as those of the new store, the file's root boxes are known, and so is what the exclusions leave of it
 pub the_covered_text_is_known_first : CoveredTextIsKnown
-the_covered_text_is_known_first = front_known a_store_in_front_is_found_text a_store_in_front_is_found_roots
+the_covered_text_is_known_first = front_known
 
 -- the file has the new store in the new range, and without that range it is the media with moved places
 pub a_built_front_has_its_store : FrontHasItsStore
@@ -55,16 +51,15 @@ a_front_is_a_split = front_split
 
 -- the file has the new store, meets each rule but the verdict on its message, and asks one question
 pub a_fresh_front_meets_the_rules : FreshFrontMeets
-a_fresh_front_meets_the_rules =
-    fresh_front a_front_is_a_split the_file_of_a_content_meets_the_rules a_content_meets_the_rules_fresh
+a_fresh_front_meets_the_rules = fresh_front
 
 -- each field of a chunk table that told a place of the media after its file type box tells where that byte is in the new file, which has the same byte there unless it is in a field itself
 pub chunks_of_a_built_front_stay : ChunksOfFrontStay
-chunks_of_a_built_front_stay = front_chunks a_shifted_file_has_its_boxes_behind chunk_places_stay_true
+chunks_of_a_built_front_stay = front_chunks
 
 -- all bytes of the media that lie in no moved field of a chunk table are in the new file, in their order
 pub bytes_of_a_built_front_stay : BytesOfFrontStay
-bytes_of_a_built_front_stay = front_bytes a_shifted_file_has_its_boxes_apart
+bytes_of_a_built_front_stay = front_bytes
 
 -- of a BMFF file without a store a new file can be planned exactly where nothing is refused of a plan
 pub a_front_is_refused_or_planned_planned : UnrefusedCanBePlanned
@@ -76,15 +71,15 @@ a_front_is_refused_or_planned_none = can_unrefused
 
 -- of a BMFF file without a store a new file can be planned exactly where nothing is refused of a plan
 pub a_front_is_refused_or_planned_fresh : PlannedIsFresh
-a_front_is_refused_or_planned_fresh = can_fresh redactions_that_pass_may_be_made_none
+a_front_is_refused_or_planned_fresh = can_fresh
 
 -- of a BMFF file without a store and a message there is a new file, whose message fills what is reserved for it, exactly where nothing is refused
 pub a_front_is_refused_or_built_built : NothingRefusedIsBuilt
-a_front_is_refused_or_built_built = nothing_refused a_message_fills_its_reserve_or_needs_more a_built_front_is_one_some
+a_front_is_refused_or_built_built = nothing_refused
 
 -- of a BMFF file without a store and a message there is a new file, whose message fills what is reserved for it, exactly where nothing is refused
 pub a_front_is_refused_or_built_none : BuiltIsNotRefused
-a_front_is_refused_or_built_none = built_not_refused a_message_fills_its_reserve_or_needs_more
+a_front_is_refused_or_built_none = built_not_refused
 
 -- over a media file that is opened as one thing, and the same other inputs, a plan comes to one thing, and so does a build
 pub a_front_comes_to_one_thing_plan : OneFrontPlan
@@ -108,12 +103,12 @@ a_made_front_meets_the_rules = made_meets
 
 -- inputs on which no refusal has its condition come to something
 pub unrefused_fronts_are_made_plan : UnrefusedIsPlanned
-unrefused_fronts_are_made_plan = unrefused_plan each_front_comes_to_something_plan
+unrefused_fronts_are_made_plan = unrefused_plan
 
 -- inputs on which no refusal has its condition come to something
 pub unrefused_fronts_are_made_made : UnrefusedIsMade
-unrefused_fronts_are_made_made = unrefused_made each_front_comes_to_something_made
+unrefused_fronts_are_made_made = unrefused_made
 
 -- a build comes to one refusal by its name, or to a new file in which each field of a chunk table that told a place of the media from the new store's on tells where the same byte is, unless that byte is in a field itself
 pub chunks_are_there_or_refused : ChunksAreThereOrRefused
-chunks_are_there_or_refused = chunks_or_refused each_front_comes_to_something_made a_made_front_meets_the_rules
+chunks_are_there_or_refused = chunks_or_refused

@@ -11,10 +11,11 @@ use Rattle.c2_new_front_spec.specs.Made.{IsFrontUnrefused, IsPlanUnrefused, Unre
 use Rattle.c2_new_front_spec.specs.Order.{bad_definition, bad_signature, bmff_refusals, front_refusals, media_refused, plan_refusals, reserve_refusals}
 use Rattle.c2_new_front_spec.specs.Outcomes.{IsDefinitionStage, IsBmffStage, IsFrontMade, IsFrontPlanned, IsMadeIn, IsMadeOver, IsMediaStage, IsMessageStage, IsNewFile, IsPlannedIn, IsPlannedOver}
 use Rattle.c2_new_signature.specs.Message.{IsMessageRead}
-use Rattle.c2_new_front_spec.specs.Outcomes.{SomeFrontMade, SomeFrontPlan, front_signed}
-use Rattle.c2_lemmas.proofs.Stages.{stage_never, stage_value}
+use Rattle.c2_new_front_spec.specs.Outcomes.{front_signed}
+use Rattle.c2_lemmas.proofs.Stages.{NeverRefuses, comes_out, stage_never, stage_value, then_never, unless_never, unless_passed, value_never}
+use Rattle.c2_lemmas.proofs.Lists.{none_both}
 use Rattle.c2_spec.proofs.Openings.{opening_never, opening_value}
-use Rattle.c2_new_front_spec.proofs.Stages.{NeverRefuses, comes_out, none_both, then_never, unless_never, unless_passed, value_never}
+use Rattle.c2_new_front_spec.proofs.SomeOutcome.{some_file, some_plan}
 
 -- ---- the film
 
@@ -76,13 +77,13 @@ made_never hash media definition message h =
     (none_both (plan_refusals media roots d) (reserve_refusals d parts) plan reserve) (λ e k. cc (k.2))))))
 
 -- where nothing is refused, bytes are planned
-pub unrefused_plan : SomeFrontPlan → UnrefusedIsPlanned
-unrefused_plan some hash media definition what opened h =
-    let r = some hash media definition what opened in
+pub unrefused_plan : UnrefusedIsPlanned
+unrefused_plan hash media definition what opened h =
+    let r = some_plan hash media definition what opened in
     comes_out (IsFrontPlanned hash media definition) r.0 r.1 (plan_never hash media definition h)
 
 -- where nothing is refused, a new file is made
-pub unrefused_made : SomeFrontMade → UnrefusedIsMade
-unrefused_made some hash media definition message what opened are h =
-    let r = some hash media definition message what opened are in
+pub unrefused_made : UnrefusedIsMade
+unrefused_made hash media definition message what opened are h =
+    let r = some_file hash media definition message what opened are in
     comes_out (IsFrontMade hash media definition message) r.0 r.1 (made_never hash media definition message h)

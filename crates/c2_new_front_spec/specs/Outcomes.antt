@@ -1,8 +1,9 @@
 -- What the build of a new store in front of a BMFF file comes to over its inputs: the bytes that are to be signed, the new file, or what is
 -- refused first. The order of the tests is this project's own choice.
-use Rattle.std.specs.Prelude.{◌≡◌, ℕ, ◌^◌, ◌<◌, List, [], ◌∷◌, length, All}
+use Rattle.std.specs.Prelude.{◌≡◌, ℕ, ◌^◌, ◌<◌, List, length, All}
 use Rattle.std.specs.declared.result.Result.{Result}
 use Rattle.std.specs.declared.result.Result.TheVariants.{Ok, Err}
+use Rattle.c2_lemmas.specs.Stages.{Then, Unless}
 use Rattle.c2_spec.specs.Bmff.Boxes.{Box, HasRoots}
 use Rattle.c2_spec.specs.C2pa.Sign1.{SignParts, sig_structure}
 use Rattle.c2_spec.specs.Cbor.Deterministic.{deterministic}
@@ -22,24 +23,6 @@ use Rattle.c2_new_file_spec.specs.Films.{new_bmff_binding, bmff_len}
 use Rattle.c2_new_front_spec.specs.Fronts.{front_covered, front_file}
 use Rattle.c2_new_front_spec.specs.InFront.{front_place}
 use Rattle.c2_new_front_spec.specs.Order.{FrontRefusal, bad_definition, bad_signature, bmff_refusals, front_refusals, media_refused, plan_refusals}
-
--- ---- one stage after the other
-
--- what comes after a stage: what was refused stays refused
-abbrev pub After : {A B : Type 0} → (A → Result B FrontRefusal → Type 0) → Result A FrontRefusal → Result B FrontRefusal → Type 0
-After Next (Ok a) r = Next a r
-After Next (Err refusal) r = r ≡ Err refusal
-
--- A stage comes to something, and what comes after it to this.
-pub record Then {A B : Type 0} (First : Result A FrontRefusal → Type 0) (Next : A → Result B FrontRefusal → Type 0) (r : Result B FrontRefusal) : Type 0 where
-  pub first : Result A FrontRefusal
-  pub is_first : First first
-  pub next : After Next first r
-
--- what comes after a list of what is refused: the first of it is answered
-abbrev pub Unless : {A : Type 0} → List FrontRefusal → (Result A FrontRefusal → Type 0) → Result A FrontRefusal → Type 0
-Unless [] Next r = Next r
-Unless (refusal ∷ others) Next r = r ≡ Err refusal
 
 -- ---- the inputs
 

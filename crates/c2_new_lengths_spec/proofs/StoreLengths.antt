@@ -8,7 +8,6 @@ use Rattle.std.specs.Prelude.{IfSome}
 use Rattle.std.specs.List.{AllByRecursion}
 use Rattle.std.proofs.lemmas.List.{length-replicate}
 use Rattle.c2_base.specs.declared.limits.TheConstants.{MAX_INPUT_LEN, MAX_STORE_LEN}
-use Rattle.c2_base.specs.declared.values.Range.{Range}
 use Rattle.c2_spec.specs.C2pa.Uri.{assertion, signature, uri_text, whole}
 use Rattle.c2_spec.specs.Cbor.Deterministic.{deterministic}
 use Rattle.c2_spec.specs.Cbor.Item.{Item, Items, list, text}
@@ -21,7 +20,7 @@ use Rattle.c2_spec.specs.declared.assertion.Relationship.TheVariants.{ComponentO
 use Rattle.c2_spec.specs.declared.cbor.Ref.{Ref}
 use Rattle.c2_spec.specs.declared.digest.Alg.{Alg}
 use Rattle.c2_spec.proofs.Digests.{len_bounds, name_len, zero_len}
-use Rattle.c2_assertion.specs.Written.{data_hash_item, ingredient_item, one_exclusion, relationship_word}
+use Rattle.c2_assertion.specs.Written.{ingredient_item, relationship_word}
 use Rattle.c2_claim.specs.Written.{claim_item, generator_item, redactions_field, signature_uri}
 use Rattle.c2_definition.specs.declared.types.Definition.{Definition}
 use Rattle.c2_definition.specs.declared.types.NewAssertion.{NewAssertion}
@@ -31,7 +30,7 @@ use Rattle.c2_new_file_spec.specs.Store.{ingredient_assertion, new_alg, new_asse
 use Rattle.c2_new_file_spec.specs.Store.{target_ref, written_ingredient}
 use Rattle.c2_new_file_spec.specs.Written.{AreIngredients, IsIngredientLabel}
 use Rattle.c2_new_file_spec.proofs.StoreSize.{assertion_len, manifest_len, store_len}
-use Rattle.c2_new_file_spec.specs.Films.{BindingHasOneLength, new_bmff_binding, bmff_store_size}
+use Rattle.c2_new_file_spec.specs.Films.{new_bmff_binding, bmff_store_size}
 use Rattle.c2_new_lengths_spec.specs.Lengths.{BmffStoresAreShort, Fits, IsShort, IsShortBinding, IsShortOver}
 use Rattle.c2_new_lengths_spec.specs.Lengths.{JpegStoresAreShort, StoresAreShort, StoresFit, assertions_len, texts_len}
 use Rattle.c2_new_lengths_spec.proofs.ItemLengths.{both_rooms, deterministic_room, items_room, pairs_room, room, texts_room}
@@ -336,42 +335,37 @@ store_most c b short over binding =
       length-replicate {A = ℕ} c.definition.reserve 0,
     )
 
--- the item of a data hash with one exclusion has one length for all digests of an algorithm
-abbrev pub DataHashHasOneLength : Type 0
-DataHashHasOneLength = (alg : Alg) (hash : List ℕ) (r : Range) → length hash ≡ digest_len alg
-    → length (deterministic (data_hash_item (one_exclusion (Some (alg_name alg)) hash r))) ≡ 68 + digest_len alg
-
 -- a binding of a known length is short
 binding_short : (b : NewAssertion) (n : ℕ) → length b.label ≤ 64 → length b.bytes ≡ n → n ≤ 1024 → IsShortBinding b
 binding_short b n label size le = omega (arith, label, size, le)
 
 -- the binding of a JPEG file is short
-data_short : DataHashHasOneLength → (alg : Alg) (start len : ℕ) (digest : List ℕ) → length digest ≡ digest_len alg
+data_short : (alg : Alg) (start len : ℕ) (digest : List ℕ) → length digest ≡ digest_len alg
     → IsShortBinding (data_binding alg start len digest)
-data_short one alg start len digest is =
+data_short alg start len digest is =
     binding_short (data_binding alg start len digest) (68 + digest_len alg) (lit≤ tt)
-    (one alg digest (range_at start len) is) (omega (arith, (len_bounds alg).1))
+    (a_written_data_hash_has_one_length_known alg digest (range_at start len) is) (omega (arith, (len_bounds alg).1))
 
 -- a new store of a JPEG file
 pub jpeg_most : JpegStoresAreShort
 jpeg_most c short over =
     let alg = new_alg c.definition in
     store_most c (data_binding alg 0 0 (zero_digest alg)) short over
-    (data_short a_written_data_hash_has_one_length_known alg 0 0 (zero_digest alg) (zero_len alg))
+    (data_short alg 0 0 (zero_digest alg) (zero_len alg))
 
 -- the binding of a BMFF file is short
-bmff_short : BindingHasOneLength → (alg : Alg) (digest : List ℕ) → length digest ≡ digest_len alg
+bmff_short : (alg : Alg) (digest : List ℕ) → length digest ≡ digest_len alg
     → IsShortBinding (new_bmff_binding alg digest)
-bmff_short one alg digest is =
-    binding_short (new_bmff_binding alg digest) (108 + digest_len alg) (lit≤ tt) (one alg digest is)
-    (omega (arith, (len_bounds alg).1))
+bmff_short alg digest is =
+    binding_short (new_bmff_binding alg digest) (108 + digest_len alg) (lit≤ tt)
+    (a_new_bmff_store_has_one_length_binding alg digest is) (omega (arith, (len_bounds alg).1))
 
 -- a new store of a BMFF file
-pub bmff_most : BindingHasOneLength → BmffStoresAreShort
-bmff_most one c short over =
+pub bmff_most : BmffStoresAreShort
+bmff_most c short over =
     let alg = new_alg c.definition in
     store_most c (new_bmff_binding alg (zero_digest alg)) short over
-    (bmff_short one alg (zero_digest alg) (zero_len alg))
+    (bmff_short alg (zero_digest alg) (zero_len alg))
 
 -- a number below 2^40 is below the greatest one that 64 bits hold
 fits : (n : ℕ) → n < 2 ^ 40 → n < 2 ^ 64 - 1
@@ -382,7 +376,7 @@ short_fits : (c : Content) → IsShort c.definition → IsShortOver c → Fits c
 short_fits c own over = record {
   any = λ b binding. fits (bound_len c b c.definition.reserve) (store_most c b own over binding);
   jpeg = fits (store_size c c.definition.reserve) (jpeg_most c own over);
-  film = fits (bmff_store_size c c.definition.reserve) ((bmff_most a_new_bmff_store_has_one_length_binding) c own over);
+  film = fits (bmff_store_size c c.definition.reserve) (bmff_most c own over);
 }
 
 -- 64 bits hold the length of a new store of a definition that a file is

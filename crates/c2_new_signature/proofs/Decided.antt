@@ -14,7 +14,10 @@ use Rattle.c2_spec.specs.Cbor.Legal.{IsLegal, depth}
 use Rattle.c2_spec.specs.Cbor.Lookup.{first_value}
 use Rattle.c2_spec.specs.Cbor.Plain.{DiffersFrom, HasPlainKeys, ItemsHavePlainKeys, PairsHavePlainKeys}
 use Rattle.c2_spec.specs.declared.cbor.CborError.{CborError}
-use Rattle.c2_spec.proofs.OneMessage.{OneItem, same_message}
+use Rattle.c2_spec.proofs.OneMessage.{same_message}
+use Rattle.c2_cbor_spec.proofs.PlainBack.{one_item}
+use Rattle.c2_cbor_spec.proofs.TheLaws.{each_list_is_an_item_or_not_one, each_list_is_an_item_or_not_some}
+use Rattle.c2_sigstruct.proofs.TheLaws.{each_item_is_a_message_or_not}
 use Rattle.c2_new_signature.specs.Message.{IsAccepted, IsRefused}
 use Rattle.c2_new_signature.specs.Tested.{EntriesTested, HeaderTested, PartsTested}
 use Rattle.c2_new_signature.specs.declared.error.SignaturePart.{SignaturePart}
@@ -159,66 +162,58 @@ some_parts protected p (inl plain) (inl own) = let tested = some_header p.unprot
 
 -- ---- the message of bytes
 
--- what laws of items and messages say
-pub record MessageLaws : Type 0 where
-  pub one_item : OneItem
-  pub each_list : (s : List ℕ) → All (λ b. b < 2 ^ 8) s → length s < 2 ^ 64
-      → ((v : Item) × HasItem s v) ⊎ ((e : CborError) × IsUnread s e)
-  pub never_both : (s : List ℕ) → All (λ b. b < 2 ^ 8) s → length s < 2 ^ 64 → (v : Item) (e : CborError) → HasItem s v
-      → IsUnread s e → ⊥
-  pub each_message : (v : Item) → ((p : SignParts) × IsMessage v p) ⊎ ((p : SignParts) → IsMessage v p → ⊥)
-
 -- bytes that are an item spell a message or none
-known_item : MessageLaws → (s : List ℕ) (v : Item) → HasItem s v
+known_item : (s : List ℕ) (v : Item) → HasItem s v
     → ((p : SignParts) × IsMessage v p) ⊎ ((p : SignParts) → IsMessage v p → ⊥)
     → ((p : SignParts) × SpellsMessage s p) ⊎ ((p : SignParts) → SpellsMessage s p → ⊥)
-known_item laws s v has (inl (p, is)) =
+known_item s v has (inl (p, is)) =
     inl (p, record { message = v; legal = has.legal; spelled = has.spelled; is = is })
-known_item laws s v has (inr none) =
-    inr (λ p h. none p (subst (λ (w : Item). IsMessage w p) (laws.one_item h.message v s h.spelled has.spelled) h.is))
+known_item s v has (inr none) =
+    inr (λ p h. none p (subst (λ (w : Item). IsMessage w p) (one_item h.message v s h.spelled has.spelled) h.is))
 
 -- bytes spell a message or none
-known_message : MessageLaws → (s : List ℕ) → All (λ b. b < 2 ^ 8) s → length s < 2 ^ 64
+known_message : (s : List ℕ) → All (λ b. b < 2 ^ 8) s → length s < 2 ^ 64
     → ((p : SignParts) × SpellsMessage s p) ⊎ ((p : SignParts) → SpellsMessage s p → ⊥)
-known_message laws s all short = by (laws.each_list s all short)
+known_message s all short = by (each_list_is_an_item_or_not_some s all short)
   where
     by : ((v : Item) × HasItem s v) ⊎ ((e : CborError) × IsUnread s e)
         → ((p : SignParts) × SpellsMessage s p) ⊎ ((p : SignParts) → SpellsMessage s p → ⊥)
-    by (inl (v, has)) = known_item laws s v has (laws.each_message v)
+    by (inl (v, has)) = known_item s v has (each_item_is_a_message_or_not v)
     by (inr (e, unread)) =
-        inr (λ p h. laws.never_both s all short h.message e (record { legal = h.legal; spelled = h.spelled }) unread)
+        inr (λ p h. each_list_is_an_item_or_not_one s all short h.message e
+        (record { legal = h.legal; spelled = h.spelled }) unread)
 
 -- ---- all tests
 
 -- bytes that spell a message are accepted, or refused for a test
-of_parts : MessageLaws → (protected s : List ℕ) (p : SignParts) → length s ≤ MAX_INPUT_LEN → SpellsMessage s p
+of_parts : (protected s : List ℕ) (p : SignParts) → length s ≤ MAX_INPUT_LEN → SpellsMessage s p
     → (t : Option SignaturePart) → PartsTested protected p t
     → IsAccepted protected s ⊎ ((test : SignaturePart) × IsRefused protected s test)
-of_parts laws protected s p small spelled None h =
-    inl (accepted_parts protected s p small spelled (λ q k. same_message laws.one_item s p q spelled k) h)
-of_parts laws protected s p small spelled (Some test) h =
-    inr (test, refused_parts protected s p test small spelled (λ q k. same_message laws.one_item s p q spelled k) h)
+of_parts protected s p small spelled None h =
+    inl (accepted_parts protected s p small spelled (λ q k. same_message one_item s p q spelled k) h)
+of_parts protected s p small spelled (Some test) h =
+    inr (test, refused_parts protected s p test small spelled (λ q k. same_message one_item s p q spelled k) h)
 
 -- bytes that aren't too many are accepted, or refused for a test, whether or not they spell a message
-of_message : MessageLaws → (protected s : List ℕ) → length s ≤ MAX_INPUT_LEN
+of_message : (protected s : List ℕ) → length s ≤ MAX_INPUT_LEN
     → ((p : SignParts) × SpellsMessage s p) ⊎ ((p : SignParts) → SpellsMessage s p → ⊥)
     → IsAccepted protected s ⊎ ((test : SignaturePart) × IsRefused protected s test)
-of_message laws protected s small (inl (p, spelled)) =
+of_message protected s small (inl (p, spelled)) =
     let tested =
     some_parts protected p
     (known_plain p (known_legal spelled.message p spelled.legal spelled.is) (known_keys (tagged_message p)))
     (known_same p.protected protected) in
-    of_parts laws protected s p small spelled tested.0 tested.1
-of_message laws protected s small (inr none) = inr (part.Form, inr (small, inl (refl, λ some. none some.0 some.1)))
+    of_parts protected s p small spelled tested.0 tested.1
+of_message protected s small (inr none) = inr (part.Form, inr (small, inl (refl, λ some. none some.0 some.1)))
 
 -- bytes are accepted, or refused for a test, whether or not they are few
-of_size : MessageLaws → (protected s : List ℕ) → All (λ b. b < 2 ^ 8) s → Known (length s ≤ MAX_INPUT_LEN)
+of_size : (protected s : List ℕ) → All (λ b. b < 2 ^ 8) s → Known (length s ≤ MAX_INPUT_LEN)
     → IsAccepted protected s ⊎ ((test : SignaturePart) × IsRefused protected s test)
-of_size laws protected s all (inl small) =
-    of_message laws protected s small (known_message laws s all (omega (arith, small)))
-of_size laws protected s all (inr large) = inr (part.Size, inl (refl, large))
+of_size protected s all (inl small) =
+    of_message protected s small (known_message s all (omega (arith, small)))
+of_size protected s all (inr large) = inr (part.Size, inl (refl, large))
 
 -- bytes are accepted, or refused for a test
-pub accepted_or_refused : MessageLaws → (protected s : List ℕ) → All (λ b. b < 2 ^ 8) s
+pub accepted_or_refused : (protected s : List ℕ) → All (λ b. b < 2 ^ 8) s
     → IsAccepted protected s ⊎ ((test : SignaturePart) × IsRefused protected s test)
-accepted_or_refused laws protected s all = of_size laws protected s all (known_most (length s) MAX_INPUT_LEN)
+accepted_or_refused protected s all = of_size protected s all (known_most (length s) MAX_INPUT_LEN)

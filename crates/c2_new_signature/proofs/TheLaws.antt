@@ -1,14 +1,11 @@
 -- The laws of this crate, for the proofs of the crates above it.
-use Rattle.c2_cbor_spec.proofs.TheLaws.{each_list_is_an_item_or_not_one, each_list_is_an_item_or_not_some}
-use Rattle.c2_new_signature.proofs.Decided.{MessageLaws, accepted_or_refused}
+use Rattle.c2_new_signature.proofs.Decided.{accepted_or_refused}
 use Rattle.c2_new_signature.proofs.SignedLaws.{either_way, not_both, one_signed}
 use Rattle.c2_new_signature.proofs.Tests.{none_first, one_first, wanted_parts}
 use Rattle.c2_new_signature.specs.Message.{AcceptedAreWanted, IsAccepted, IsRefused, IsWanted, Passes, RefusedForOne, message_tests, IsMessageRead}
 use Rattle.c2_new_signature.specs.Signed.{FillsOrNeedsMore, IsPaddable}
 use Rattle.c2_new_signature.specs.declared.error.SignaturePart.{SignaturePart}
-use Rattle.c2_pad.proofs.TheLaws.{fills_are_exact}
 use Rattle.c2_pad.specs.declared.types.TheConstants.{MAX_FILL}
-use Rattle.c2_sigstruct.proofs.TheLaws.{each_item_is_a_message_or_not, padded_messages_are_read_longer, padded_messages_are_read_read}
 use Rattle.c2_cbor_spec.proofs.PlainBack.{one_item}
 use Rattle.c2_spec.proofs.OneMessage.{same_message}
 use Rattle.c2_spec.specs.C2pa.Sign1.{SignParts, SpellsMessage}
@@ -16,18 +13,11 @@ use Rattle.std.proofs.Common.{All, Err, List, Ok, Result, ap, inl, inr, ℕ, ◌
 
 -- a list of bytes is accepted as a message, or is refused for one test, and never both
 pub each_message_is_accepted_or_refused_for_one_test : RefusedForOne
-each_message_is_accepted_or_refused_for_one_test =
-    let laws : MessageLaws = record {
-      one_item = one_item;
-      each_list = each_list_is_an_item_or_not_some;
-      never_both = each_list_is_an_item_or_not_one;
-      each_message = each_item_is_a_message_or_not;
-    } in
-    record {
-      one = λ protected bytes a b. one_first (Passes protected bytes) message_tests a b;
-      none = λ protected bytes test. none_first (Passes protected bytes) message_tests test;
-      either = accepted_or_refused laws;
-    }
+each_message_is_accepted_or_refused_for_one_test = record {
+  one = λ protected bytes a b. one_first (Passes protected bytes) message_tests a b;
+  none = λ protected bytes test. none_first (Passes protected bytes) message_tests test;
+  either = accepted_or_refused;
+}
 
 -- the message that accepted bytes spell has the wanted protected header, and can be padded
 pub accepted_messages_can_be_padded : AcceptedAreWanted
@@ -37,26 +27,28 @@ accepted_messages_can_be_padded = wanted_parts
 pub a_message_fills_its_reserve_or_needs_more : FillsOrNeedsMore
 a_message_fills_its_reserve_or_needs_more = record {
   one = one_signed;
-  never_both = not_both fills_are_exact;
-  either = either_way fills_are_exact padded_messages_are_read_longer padded_messages_are_read_read;
+  never_both = not_both;
+  either = either_way;
 }
 
 -- a message is read as one thing: as its parts, where it is accepted, or as the test for which it is refused
-pub one_message_read : RefusedForOne → (protected bytes : List ℕ) (m n : Result SignParts SignaturePart)
+pub one_message_read : (protected bytes : List ℕ) (m n : Result SignParts SignaturePart)
     → IsMessageRead protected bytes m
     → IsMessageRead protected bytes n → m ≡ n
-one_message_read law protected bytes (Ok p) (Ok q) h k =
+one_message_read protected bytes (Ok p) (Ok q) h k =
     ap (λ (x : SignParts). Ok x) (same_message one_item bytes p q h.1 k.1)
-one_message_read law protected bytes (Ok p) (Err t) h k = absurd (law.none protected bytes t k h.0)
-one_message_read law protected bytes (Err t) (Ok q) h k = absurd (law.none protected bytes t h k.0)
-one_message_read law protected bytes (Err t) (Err u) h k =
-    ap (λ (x : SignaturePart). Err x) (law.one protected bytes t u h k)
+one_message_read protected bytes (Ok p) (Err t) h k =
+    absurd (each_message_is_accepted_or_refused_for_one_test.none protected bytes t k h.0)
+one_message_read protected bytes (Err t) (Ok q) h k =
+    absurd (each_message_is_accepted_or_refused_for_one_test.none protected bytes t h k.0)
+one_message_read protected bytes (Err t) (Err u) h k =
+    ap (λ (x : SignaturePart). Err x) (each_message_is_accepted_or_refused_for_one_test.one protected bytes t u h k)
 
 -- each message is read as something
-pub some_message_read : RefusedForOne → (protected bytes : List ℕ) → All (λ b. b < 2 ^ 8) bytes
+pub some_message_read : (protected bytes : List ℕ) → All (λ b. b < 2 ^ 8) bytes
     → (m : Result SignParts SignaturePart)
     × IsMessageRead protected bytes m
-some_message_read law protected bytes are = by (law.either protected bytes are)
+some_message_read protected bytes are = by (accepted_or_refused protected bytes are)
   where
     by : IsAccepted protected bytes ⊎ ((test : SignaturePart) × IsRefused protected bytes test)
         → (m : Result SignParts SignaturePart)

@@ -14,14 +14,9 @@ use Rattle.c2_rules.specs.Rules.{claim_tests, rest_tests, unjudged_tests, verdic
 use Rattle.c2_rules.specs.Seen.{Seen, seen_at}
 use Rattle.c2_rules.specs.Tests.{AllHold, Test, downward, first_failing}
 use Rattle.c2_rules.specs.declared.answer.Failing.{Failing}
+use Rattle.c2_rules.proofs.ClaimLemmas.{claim_rules_ask}
 use Rattle.c2_rules.proofs.FirstLemmas.{all_hold, none_fails}
 use Rattle.c2_rules.proofs.TestLemmas.{first_failing_append}
-
--- a manifest of which the rules on its claim hold has a question
-abbrev pub HasQuestionThen : Type 0
-HasQuestionThen =
-    (m : Manifest) (r : Reading) → IsReading m r → first_failing (claim_tests r) ≡ None
-    → is_some (question_in r) ≡ true
 
 -- ---- lists
 
@@ -70,23 +65,23 @@ approved_passes said r (Some q) some h = by (said q) h.0
     by v e = ap (λ (w : Verdict). first_failing (verdict_tests r (Some w))) e
 
 -- the rules of a manifest hold with its verdict
-judged_pass : HasQuestionThen → (hash : Alg → List ℕ → List ℕ) (said : Question → Verdict)
+judged_pass : (hash : Alg → List ℕ → List ℕ) (said : Question → Verdict)
     (m : Manifest) (s : Seen) → IsReading m s.own → first_failing (unjudged_tests hash s) ≡ None
     → AreApproved said (option_to_list (question_in s.own))
     → first_failing (judged_tests hash said s) ≡ None
-judged_pass law hash said m s reads h approved =
+judged_pass hash said m s reads h approved =
     let both = none_split (claim_tests s.own) (rest_tests hash s) h in
-    let verdict = approved_passes said s.own (question_in s.own) (law m s.own reads both.0) approved in
+    let verdict = approved_passes said s.own (question_in s.own) (claim_rules_ask m s.own reads both.0) approved in
     none_joined (claim_tests s.own) (verdict_tests s.own (option_map said (question_in s.own)) ++ rest_tests hash s)
     both.0
     (none_joined (verdict_tests s.own (option_map said (question_in s.own))) (rest_tests hash s) verdict both.1)
 
 -- of the manifest at a place, where it is reached
-place_pass : HasQuestionThen → (hash : Alg → List ℕ → List ℕ) (said : Question → Verdict)
+place_pass : (hash : Alg → List ℕ → List ℕ) (said : Question → Verdict)
     (ms : List Manifest) (rs : List Reading) (i : ℕ) → AreReadings ms rs
     → first_failing (place_tests (unjudged_tests hash) rs i) ≡ None → AreApproved said (question_at rs i)
     → first_failing (place_tests (judged_tests hash said) rs i) ≡ None
-place_pass law hash said ms rs i reads h approved =
+place_pass hash said ms rs i reads h approved =
     by (is_reached rs i) (slice_get rs i) (λ r. read_at ms rs i r reads) h approved
   where
     by : (b : Bool) (o : Option Reading) → ((r : Reading) → o ≡ Some r → (m : Manifest) × IsReading m r)
@@ -95,30 +90,30 @@ place_pass law hash said ms rs i reads h approved =
         → first_failing (cond b (tests_of (judged_tests hash said) rs i o) []) ≡ None
     by false o is k a = refl
     by true None is k a = refl
-    by true (Some r) is k a = let m = is r refl in judged_pass law hash said m.0 (seen_at rs i r) m.1 k a
+    by true (Some r) is k a = let m = is r refl in judged_pass hash said m.0 (seen_at rs i r) m.1 k a
 
 -- of all manifests
-chain_pass : HasQuestionThen → (hash : Alg → List ℕ → List ℕ) (said : Question → Verdict)
+chain_pass : (hash : Alg → List ℕ → List ℕ) (said : Question → Verdict)
     (ms : List Manifest) (rs : List Reading) (n : ℕ) → AreReadings ms rs
     → first_failing (downward (place_tests (unjudged_tests hash) rs) n) ≡ None
     → AreApproved said (downward (question_at rs) n)
     → first_failing (downward (place_tests (judged_tests hash said) rs) n) ≡ None
-chain_pass law hash said ms rs zero reads h approved = refl
-chain_pass law hash said ms rs (suc n) reads h approved =
+chain_pass hash said ms rs zero reads h approved = refl
+chain_pass hash said ms rs (suc n) reads h approved =
     let both = none_split (place_tests (unjudged_tests hash) rs n) (downward (place_tests (unjudged_tests hash) rs) n)
     h in
     let asked = approved_parts said (question_at rs n) (downward (question_at rs) n) approved in
     none_joined (place_tests (judged_tests hash said) rs n) (downward (place_tests (judged_tests hash said) rs) n)
-    (place_pass law hash said ms rs n reads both.0 asked.0) (chain_pass law hash said ms rs n reads both.1 asked.1)
+    (place_pass hash said ms rs n reads both.0 asked.0) (chain_pass hash said ms rs n reads both.1 asked.1)
 
 -- ---- the store
 
 -- an approved store is valid
-pub approved_is_valid : HasQuestionThen
-    → (hash : Alg → List ℕ → List ℕ) (said : Question → Verdict) (ms : List Manifest) (s : StoreReading)
+pub approved_is_valid :
+    (hash : Alg → List ℕ → List ℕ) (said : Question → Verdict) (ms : List Manifest) (s : StoreReading)
     → AreReadings ms s.readings → AllHold (unjudged_list hash s) → AreApproved said (questions s.readings)
     → IsValid hash said s
-approved_is_valid law hash said ms s reads h approved =
+approved_is_valid hash said ms s reads h approved =
     let active : List Test = active_tests (active_in s.readings) in
     let last : List Test = last_tests hash s.binding (active_in s.readings) in
     let chain : List Test = chain_tests (unjudged_tests hash) s.readings in
@@ -127,4 +122,4 @@ approved_is_valid law hash said ms s reads h approved =
     all_hold (check_list hash said s)
     (none_joined active (chain_tests (judged_tests hash said) s.readings ++ last) first.0
     (none_joined (chain_tests (judged_tests hash said) s.readings) last
-    (chain_pass law hash said ms s.readings (length s.readings) reads second.0 approved) second.1))
+    (chain_pass hash said ms s.readings (length s.readings) reads second.0 approved) second.1))

@@ -15,7 +15,7 @@ use Rattle.c2_build_refusals.specs.declared.error.BuildError.{BuildError}
 use Rattle.c2_build_refusals.specs.declared.types.Embedded.{Embedded}
 use Rattle.c2_build_plain.specs.Answers.{EmbedsFile, Writes, file_of}
 use Rattle.c2_build_plain.specs.Building.{Built, IsEmbedded}
-use Rattle.c2_build_plain.specs.Meeting.{OneEmbedding}
+use Rattle.c2_build_plain.proofs.TheLaws.{a_build_comes_to_one_thing_embedding}
 use Rattle.c2_sample.specs.Sample.{BuildAsks, IsFileSampled, IsNewFile, IsSampled, SampleAsks, is_refusal, no_judges, sample_definition, sample_media, sample_message}
 use Rattle.c2_sample.specs.declared.building.NewFile.{NewFile}
 use Rattle.c2_sample.specs.declared.building.NewFile.TheVariants as new
@@ -39,13 +39,16 @@ by_nobody {T} says written spare finished hash media old now r none h =
     none h
 
 -- a sink that was empty holds the new file
-pub new_file : OneEmbedding → (hash : Alg → List ℕ → List ℕ) (media before now text bytes file : List ℕ) (b : Built)
+pub new_file : (hash : Alg → List ℕ → List ℕ) (media before now text bytes file : List ℕ) (b : Built)
     → IsMade hash media (Ok b) → Writes (IsMade hash media) text → Appends (Some before) (Some now) text
     → before ≡ [] → bytes ≡ now → file ≡ bytes → IsNewFile hash media (new.Built file)
-new_file one hash media before now text bytes file b is writes whole empty read copied =
+new_file hash media before now text bytes file b is writes whole empty read copied =
     let same : now ≡ before ++ text = cc (whole) in
     let own : text ≡ b.file =
-    writes.2 ∙ ap file_of (one hash no_judges media sample_definition sample_message writes.0 (Ok b) writes.1 is) in
+    writes.2
+    ∙ ap file_of
+    (a_build_comes_to_one_thing_embedding hash no_judges media sample_definition sample_message writes.0 (Ok b)
+    writes.1 is) in
     (b, is, copied ∙ read ∙ same ∙ ap (λ (front : List ℕ). front ++ text) empty ∙ own)
 
 -- what is refused is what the inputs come to
@@ -92,23 +95,28 @@ refused_sampled hash said n media e is refused =
 -- ---- what is asked
 
 -- the questions of so many pieces are those of the file that is built of them
-pub built_asks : OneEmbedding
-    → (hash : Alg → List ℕ → List ℕ) (said : Question → Verdict) (n : ℕ) (media file : List ℕ) (qs : List Question)
+pub built_asks :
+    (hash : Alg → List ℕ → List ℕ) (said : Question → Verdict) (n : ℕ) (media file : List ℕ) (qs : List Question)
     → media ≡ sample_media n → IsNewFile hash media (new.Built file) → SampleAsks hash said n qs
     → CheckAsks hash said file qs
-built_asks one hash said n media file qs is built asks =
+built_asks hash said n media file qs is built asks =
     let made =
     subst (λ (m : List ℕ). IsEmbedded hash no_judges m sample_definition sample_message (Ok built.0)) is built.1 in
-    let same = one hash no_judges (sample_media n) sample_definition sample_message asks.0 (Ok built.0) asks.1 made in
+    let same =
+    a_build_comes_to_one_thing_embedding hash no_judges (sample_media n) sample_definition sample_message asks.0
+    (Ok built.0) asks.1 made in
     subst (λ (f : List ℕ). CheckAsks hash said f qs) (sym built.2)
     (subst (λ (r : Result Built BuildError). BuildAsks hash said r qs) same asks.2)
 
 -- a sample of so many pieces asks no questions where the build is refused
-pub refused_asks : OneEmbedding
-    → (hash : Alg → List ℕ → List ℕ) (said : Question → Verdict) (n : ℕ) (media : List ℕ) (e : BuildError) (qs : List Question)
+pub refused_asks :
+    (hash : Alg → List ℕ → List ℕ) (said : Question → Verdict) (n : ℕ) (media : List ℕ) (e : BuildError)
+    (qs : List Question)
     → media ≡ sample_media n → IsNewFile hash media (new.Refused e) → SampleAsks hash said n qs → qs ≡ []
-refused_asks one hash said n media e qs is refused asks =
+refused_asks hash said n media e qs is refused asks =
     let made =
     subst (λ (m : List ℕ). IsEmbedded hash no_judges m sample_definition sample_message (Err e)) is refused in
-    let same = one hash no_judges (sample_media n) sample_definition sample_message asks.0 (Err e) asks.1 made in
+    let same =
+    a_build_comes_to_one_thing_embedding hash no_judges (sample_media n) sample_definition sample_message asks.0 (Err e)
+    asks.1 made in
     subst (λ (r : Result Built BuildError). BuildAsks hash said r qs) same asks.2

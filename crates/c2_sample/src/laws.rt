@@ -1,8 +1,6 @@
 // What holds of each sample; nothing is computed.
 ghost use Rattle.c2_sample.specs.Sample.{EachSample, EachSampleAsks, OneSample, OneSampleAsks};
 
-use c2_build_plain::each_build_comes_to_something;
-
 /// A sample of so many pieces has one outcome, and asks one list of questions.
 pub fn a_sample_comes_to_one_thing()
     ensures sample { OneSample }
@@ -13,6 +11,4 @@ pub fn a_sample_comes_to_one_thing()
 pub fn each_sample_comes_to_something()
     ensures sample { EachSample }
     ensures asks { EachSampleAsks }
-{
-    each_build_comes_to_something();
-}
+{}

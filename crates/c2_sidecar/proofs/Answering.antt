@@ -1,5 +1,6 @@
 -- The answer of the check with an external store, and what is asked, by what the media file is as a container.
 use Rattle.c2_container.proofs.TheLaws.{each_media_file_is_located_once}
+use Rattle.c2_validate.proofs.TheLaws.{each_file_has_an_external_check_answer}
 use Rattle.std.proofs.Common.{◌≡◌, inl, inr, ℕ, ◌<◌, ◌^◌, List, [], All, Option, Some, Ok, Err, IfOk, refl, map, subst}
 use Rattle.std.specs.declared.alloc.Global.{Global}
 use Rattle.std.specs.declared.result.Result.{Result}
@@ -57,24 +58,19 @@ over_list hash said file store c e (refused reason number) h located k =
 over_list hash said file store c e absent h located k = k
 over_list hash said file store c e (here start len own) h located k = k
 
--- each file and each list have an answer
-abbrev pub EachExternal : Type 0
-EachExternal =
-    (hash : Alg → List ℕ → List ℕ) (said : Question → Verdict) (file store : List ℕ) → All (λ b. b < 2 ^ 8) file → All
-    (λ b. b < 2 ^ 8) store → (e : External) × IsExternalAnswer hash said file store e
-
 -- what alone is answered over the list is the answer
-pub list_is : EachExternal
-    → (hash : Alg → List ℕ → List ℕ) (said : Question → Verdict) (file store : List ℕ) (c : Contained) (r : Result External ValidateError)
+pub list_is :
+    (hash : Alg → List ℕ → List ℕ) (said : Question → Verdict) (file store : List ℕ) (c : Contained)
+    (r : Result External ValidateError)
     → All (λ b. b < 2 ^ 8) file → All (λ b. b < 2 ^ 8) store → IsSaid file (Ok c)
     → IfOk r (IsListAnswered hash said c.container store file)
     → IfOk r (IsAnsweredExternal hash said file store)
-list_is each hash said file store c (Ok e) bytes held h k =
+list_is hash said file store c (Ok e) bytes held h k =
     let only : (expected : External) → IsExternalAnswer hash said file store expected → expected ≡ e =
     λ expected x. k h.container expected (over_list hash said file store c expected x.0 h x.1 x.2) in
-    let a = each hash said file store bytes held in
+    let a = each_file_has_an_external_check_answer hash said file store bytes held in
     record { is = subst (IsExternalAnswer hash said file store) (only a.0 a.1) a.1; only = only }
-list_is each hash said file store c (Err x) bytes held h k = tt
+list_is hash said file store c (Err x) bytes held h k = tt
 
 -- what is asked of the file is asked over the list
 list_asks :

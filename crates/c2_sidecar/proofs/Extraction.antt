@@ -1,5 +1,5 @@
 -- What a file comes to when its store is extracted, and what the sink took.
-use Rattle.c2_container.proofs.TheLaws.{each_media_file_is_located_once}
+use Rattle.c2_container.proofs.TheLaws.{each_media_file_is_located_located, each_media_file_is_located_once}
 use Rattle.std.proofs.Common.{◌≡◌, ℕ, ◌<◌, ◌^◌, Bool, List, length, All, Option, Ok, Err, IfOk, refl, sym, ◌∙◌, ap, subst}
 use Rattle.std.specs.declared.result.Result.{Result}
 use Rattle.c2_base.specs.declared.media.Found.{Found}
@@ -26,9 +26,9 @@ located_is file what h =
     { is = (what, h, refl); only = λ other k. k.2 ∙ ap extracted_of (each_media_file_is_located_once file k.0 what k.1 h) }
 
 -- each file comes to something
-pub each_extracted : ((file : List ℕ) → All (λ b. b < 2 ^ 8) file → (what : Located) × IsLocated file what)
-    → (file : List ℕ) → All (λ b. b < 2 ^ 8) file → (a : Extracted) × ExtractsTo file a
-each_extracted each file bytes = let l = each file bytes in (extracted_of l.0, (l.0, l.1, refl))
+pub each_extracted : (file : List ℕ) → All (λ b. b < 2 ^ 8) file → (a : Extracted) × ExtractsTo file a
+each_extracted file bytes =
+    let l = each_media_file_is_located_located file bytes in (extracted_of l.0, (l.0, l.1, refl))
 
 -- ---- a refused container
 

@@ -18,7 +18,7 @@ use c2_hash::Hashing;
 use c2_judge::Judge;
 use c2_rules::Answer;
 use c2_spec::{Reason, Refusal};
-use c2_validate::{External, ValidateError, check_external, each_file_has_an_external_check};
+use c2_validate::{External, ValidateError, check_external};
 use std::alloc::Global;
 
 // The answer for an error of the container.
@@ -116,7 +116,6 @@ pub fn validate_external<S: Source, T: Source, H: Hashing>(
         (AsksWhereDue H.digest_of (S.known source.old) (T.known store.old))
         judges.old judges.new result }
 {
-    each_file_has_an_external_check();
     let contained = match locate(alloc, source) {
         Ok(contained) => contained,
         Err(error) => return refused(error),

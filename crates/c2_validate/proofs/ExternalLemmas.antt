@@ -24,6 +24,7 @@ use Rattle.c2_opening.specs.declared.types.Opened.{Opened}
 use Rattle.c2_opening.specs.declared.types.Opened.TheVariants as opened
 use Rattle.c2_opening.specs.declared.types.StoreRead.{StoreRead}
 use Rattle.c2_opening.specs.declared.types.StoreRead.TheVariants as read
+use Rattle.c2_validate.proofs.EachCheck.{each_external_answer}
 use Rattle.c2_validate.specs.Boxes.{IsStoreAnswered, IsTreeAnswered}
 use Rattle.c2_validate.specs.External.{ExternalAsks, IsExternalAnswer, IsAnsweredExternal, IsListAnswered, IsLocatedAnswer, IsStoreAnswer, IsExternalStore, ListAsks, LocatedAsks}
 use Rattle.c2_validate.specs.declared.external.External.{External}
@@ -113,12 +114,6 @@ list_asks hash store said t s qs small h k =
 
 -- ---- a file
 
--- each file and each list have an answer
-abbrev pub EachExternal : Type 0
-EachExternal =
-    (hash : Alg → List ℕ → List ℕ) (said : Question → Verdict) (file store : List ℕ) → All (λ b. b < 2 ^ 8) file → All
-    (λ b. b < 2 ^ 8) store → (e : External) × IsExternalAnswer hash said file store e
-
 -- what a file is as a container follows from what was found
 at_found : (hash : Alg → List ℕ → List ℕ) (said : Question → Verdict) (file store : List ℕ) (o : Opened) (e : External)
     → IsFound file o → IsExternalAnswer hash said file store e → IsLocatedAnswer hash said file store (located_of o) e
@@ -133,39 +128,41 @@ asks_found hash store file said o qs h k =
     subst (λ (l : Located). LocatedAsks hash store said l qs) (h.only k.0 k.1) k.2
 
 -- the answer that any is, is the one
-answered : EachExternal
-    → (hash : Alg → List ℕ → List ℕ) (said : Question → Verdict) (file store : List ℕ) (e : External)
+answered :
+    (hash : Alg → List ℕ → List ℕ) (said : Question → Verdict) (file store : List ℕ) (e : External)
     → All (λ b. b < 2 ^ 8) file → All (λ b. b < 2 ^ 8) store
     → ((expected : External) → IsExternalAnswer hash said file store expected → expected ≡ e)
     → IsAnsweredExternal hash said file store e
-answered each hash said file store e bytes held only = let a = each hash said file store bytes held in record { is = subst (IsExternalAnswer hash said file store) (only a.0 a.1) a.1; only = only }
+answered hash said file store e bytes held only =
+    let a = each_external_answer hash said file store bytes held in
+    record { is = subst (IsExternalAnswer hash said file store) (only a.0 a.1) a.1; only = only }
 
 -- what is answered over the list is answered of a file with a store
-pub external_here : {E : Type 0} → EachExternal → (hash : Alg → List ℕ → List ℕ) (said : Question → Verdict)
+pub external_here : {E : Type 0} (hash : Alg → List ℕ → List ℕ) (said : Question → Verdict)
     (file store : List ℕ) (m : MediaFile) (r : Result External E) → All (λ b. b < 2 ^ 8) file
     → All (λ b. b < 2 ^ 8) store → IsFound file (opened.Here m)
     → IfOk r (IsListAnswered hash said m.container store file)
     → IfOk r (IsAnsweredExternal hash said file store)
-external_here each hash said file store m (Ok e) bytes held h k =
-    answered each hash said file store e bytes held
+external_here hash said file store m (Ok e) bytes held h k =
+    answered hash said file store e bytes held
     (λ expected answers. k h.container expected (at_found hash said file store (opened.Here m) expected h answers))
-external_here each hash said file store m (Err e) bytes held h k = tt
+external_here hash said file store m (Err e) bytes held h k = tt
 
 -- what is answered over the list is answered of a file without a store
-pub external_none : {E : Type 0} → EachExternal → (hash : Alg → List ℕ → List ℕ) (said : Question → Verdict)
+pub external_none : {E : Type 0} (hash : Alg → List ℕ → List ℕ) (said : Question → Verdict)
     (file store : List ℕ) (c : Container) (r : Result External E) → All (λ b. b < 2 ^ 8) file
     → All (λ b. b < 2 ^ 8) store → IsFound file (opened.NoStore c) → IfOk r (IsListAnswered hash said c store file)
     → IfOk r (IsAnsweredExternal hash said file store)
-external_none each hash said file store c (Ok e) bytes held h k =
-    answered each hash said file store e bytes held
+external_none hash said file store c (Ok e) bytes held h k =
+    answered hash said file store e bytes held
     (λ expected answers. k h.container expected (at_found hash said file store (opened.NoStore c) expected h answers))
-external_none each hash said file store c (Err e) bytes held h k = tt
+external_none hash said file store c (Err e) bytes held h k = tt
 
 -- a file that is refused has that answer
-pub external_refused : EachExternal
-    → (hash : Alg → List ℕ → List ℕ) (said : Question → Verdict) (file store : List ℕ) (reason : Reason) (number : ℕ)
+pub external_refused :
+    (hash : Alg → List ℕ → List ℕ) (said : Question → Verdict) (file store : List ℕ) (reason : Reason) (number : ℕ)
     → All (λ b. b < 2 ^ 8) file → All (λ b. b < 2 ^ 8) store → IsFound file (opened.Refused reason number)
     → IsAnsweredExternal hash said file store (Of (answer.Refused reason number))
-external_refused each hash said file store reason number bytes held h =
-    answered each hash said file store (Of (answer.Refused reason number)) bytes held
+external_refused hash said file store reason number bytes held h =
+    answered hash said file store (Of (answer.Refused reason number)) bytes held
     (λ expected answers. at_found hash said file store (opened.Refused reason number) expected h answers)

@@ -25,26 +25,22 @@ use Rattle.c2_opening.specs.declared.types.Opened.TheVariants as opened
 use Rattle.c2_opening.specs.declared.types.StoreRead.{StoreRead}
 use Rattle.c2_opening.specs.declared.types.StoreRead.TheVariants as read
 use Rattle.c2_spec.specs.declared.store.ManifestBoxes.{ManifestBoxes}
+use Rattle.c2_validate.proofs.EachCheck.{each_answer}
+use Rattle.c2_validate.proofs.OneCheck.{one_answer}
 use Rattle.c2_validate.specs.Boxes.{AnswersOver, IsMediaAnswer, IsTreeAnswered, MediaAsks}
 use Rattle.c2_validate.specs.Checked.{IsCheckedOver, IsOpenedFrom, StoreAsks, answer_as, readings_of}
 use Rattle.c2_validate.specs.Validation.{FileAsks, IsAnswered}
 use Rattle.c2_validate.specs.declared.checking.Checked.{Checked}
 use Rattle.c2_validate.specs.declared.checking.OpenedStore.{OpenedStore}
 
--- a file has one answer
-abbrev pub OneAnswer : Type 0
-OneAnswer =
-    (hash : Alg → List ℕ → List ℕ) (said : Question → Verdict) (file : List ℕ) (a b : Answer) → IsAnswer hash said file
-    a → IsAnswer hash said file b → a ≡ b
-
 -- ---- by what the file is opened as
 
 -- the answer over what a file is opened as is that of the file, and nothing else is
-pub opened_answer : OneAnswer
-    → (hash : Alg → List ℕ → List ℕ) (said : Question → Verdict) (file : List ℕ) (what : Opening Tree) (a : Answer)
+pub opened_answer :
+    (hash : Alg → List ℕ → List ℕ) (said : Question → Verdict) (file : List ℕ) (what : Opening Tree) (a : Answer)
     → IsOpened file what → IsOpenedAnswer hash said file what a → IsAnswered hash said file a
-opened_answer one hash said file what a is over =
-    record { is = (what, is, over); only = λ expected answers. one hash said file expected a answers (what, is, over) }
+opened_answer hash said file what a is over =
+    record { is = (what, is, over); only = λ expected answers. one_answer hash said file expected a answers (what, is, over) }
 
 -- what is asked of a file is asked over what it is opened as
 pub opened_asks :
@@ -82,18 +78,18 @@ tree_asks hash said t rs ss qs reads others is =
     is ∙ ap (check_asks hash said) (one_reading_manifests (manifests_of t) ss rs others reads)
 
 -- what is answered over a tree is the answer of the file that is opened as that tree
-answer_by : OneAnswer
-    → (hash : Alg → List ℕ → List ℕ) (said : Question → Verdict) (file : List ℕ) (c : Container) (start len : ℕ)
+answer_by :
+    (hash : Alg → List ℕ → List ℕ) (said : Question → Verdict) (file : List ℕ) (c : Container) (start len : ℕ)
     (t : Tree) (rs : List Reading) (a b : Answer) → IsAnswer hash said file b → IsContainerOf file c
     → IsOpened file (here start len t)
     → AreReadings (manifests_of t) rs → AnswersOver hash said file c start len rs a → IsAnswered hash said file a
-answer_by answers hash said file c start len t rs a b is contained opened_as reads h =
+answer_by hash said file c start len t rs a b is contained opened_as reads h =
     let over =
     subst (λ (w : Opening Tree). IsOpenedAnswer hash said file w b)
     (one_opening_file file is.0 (here start len t) is.1 opened_as) is.2 in
     let same : b ≡ a = sym (tree_answered hash said file c start len t rs a b contained reads h over) in
     record
-    { is = subst (IsAnswer hash said file) same is; only = λ expected k. answers hash said file expected b k is ∙ same }
+    { is = subst (IsAnswer hash said file) same is; only = λ expected k. one_answer hash said file expected b k is ∙ same }
 
 -- what is answered over the manifests that were read of a box tree is answered over that
 pub boxes_answered : {E : Type 0} (hash : Alg → List ℕ → List ℕ) (said : Question → Verdict) (file : List ℕ) (c : Container)
@@ -103,21 +99,15 @@ boxes_answered hash said file c start len t rs (Ok a) reads h = λ contained exp
     sym (tree_answered hash said file c start len t rs a expected contained reads h k)
 boxes_answered hash said file c start len t rs (Err e) reads h = tt
 
--- each file has an answer
-abbrev pub EachAnswer : Type 0
-EachAnswer =
-    (hash : Alg → List ℕ → List ℕ) (said : Question → Verdict) (file : List ℕ) → All (λ b. b < 2 ^ 8) file
-    → (a : Answer) × IsAnswer hash said file a
-
 -- what is answered over the manifests of a file's store is its answer
-pub read_answers : OneAnswer → EachAnswer
-    → (hash : Alg → List ℕ → List ℕ) (said : Question → Verdict) (file : List ℕ) (c : Container) (start len : ℕ) (t : Tree) (rs : List Reading) (a : Answer)
+pub read_answers :
+    (hash : Alg → List ℕ → List ℕ) (said : Question → Verdict) (file : List ℕ) (c : Container) (start len : ℕ) (t : Tree) (rs : List Reading) (a : Answer)
     → All (λ b. b < 2 ^ 8) file → IsContainerOf file c
     → IsOpened file (here start len t) → AreReadings (manifests_of t) rs → AnswersOver hash said file c start len rs a
     → IsAnswered hash said file a
-read_answers answers each hash said file c start len t rs a bytes contained opened_as reads h =
+read_answers hash said file c start len t rs a bytes contained opened_as reads h =
     let e =
-    each hash said file bytes in answer_by answers hash said file c start len t rs a e.0 e.1 contained opened_as
+    each_answer hash said file bytes in answer_by hash said file c start len t rs a e.0 e.1 contained opened_as
     reads h
 
 -- what is asked of a file is asked over the manifests of its store
@@ -129,12 +119,12 @@ read_asks hash said file start len t rs qs opened_as reads asks =
     tree_asks hash said t rs over.0 qs reads over.1 over.2
 
 -- what is answered over an opened store is the answer of its file
-pub store_answers : OneAnswer → EachAnswer
-    → (hash : Alg → List ℕ → List ℕ) (said : Question → Verdict) (file : List ℕ) (o : OpenedStore) (checked : Checked)
+pub store_answers :
+    (hash : Alg → List ℕ → List ℕ) (said : Question → Verdict) (file : List ℕ) (o : OpenedStore) (checked : Checked)
     → All (λ b. b < 2 ^ 8) file → IsOpenedFrom file o → IsCheckedOver hash said o file checked
     → IsAnswered hash said file (answer_as checked)
-store_answers answers each hash said file o checked bytes from h =
-    read_answers answers each hash said file o.container.now o.range.start o.range.length from.tree (readings_of o)
+store_answers hash said file o checked bytes from h =
+    read_answers hash said file o.container.now o.range.start o.range.length from.tree (readings_of o)
     (answer_as checked) bytes from.container from.opened from.reads (λ m i b has. (h m i b has).answer)
 
 -- what is asked of a file is asked of its opened store
@@ -226,12 +216,12 @@ media_asks hash said m r qs h k =
     subst (λ (w : Opening Tree). OpenedAsks (check_asks hash said) w qs) (read_as m r k.0 h k.1) k.2
 
 -- what is answered over it is the answer of its file
-pub found_answered : {E : Type 0} → EachAnswer → (hash : Alg → List ℕ → List ℕ) (said : Question → Verdict)
+pub found_answered : {E : Type 0} (hash : Alg → List ℕ → List ℕ) (said : Question → Verdict)
     (file : List ℕ) (m : MediaFile) (r : Result Answer E) → All (λ b. b < 2 ^ 8) file → IsFound file (opened.Here m)
     → IfOk r (IsMediaAnswer hash said m file) → IfOk r (IsAnswered hash said file)
-found_answered each hash said file m (Ok a) bytes h k =
+found_answered hash said file m (Ok a) bytes h k =
     let only : (expected : Answer) → IsAnswer hash said file expected → expected ≡ a =
     λ expected is. k h.container is.0 (found_store file m is.0 h is.1) expected is.2 in
-    let e = each hash said file bytes in
+    let e = each_answer hash said file bytes in
     record { is = subst (IsAnswer hash said file) (only e.0 e.1) e.1; only = only }
-found_answered each hash said file m (Err e) bytes h k = tt
+found_answered hash said file m (Err e) bytes h k = tt

@@ -2,7 +2,6 @@
 use Rattle.c2_base.specs.declared.values.Question.{Question}
 use Rattle.c2_container.proofs.TheLaws.{each_media_file_is_located_small}
 use Rattle.c2_container.specs.declared.types.Container.{Container as AnyContainer}
-use Rattle.c2_opening.proofs.TheLaws.{one_opening_file}
 use Rattle.c2_opening.specs.Opened.{IsFound, IsStoreRead, tree_of}
 use Rattle.c2_opening.specs.declared.types.Media.{Media as AnyMedia}
 use Rattle.c2_opening.specs.declared.types.StoreRead.{StoreRead as AnyStoreRead}
@@ -15,31 +14,48 @@ use Rattle.c2_spec.specs.Located.{Opening, absent, refused}
 use Rattle.c2_spec.specs.declared.digest.Alg.{Alg}
 use Rattle.c2_spec.specs.declared.panel.Verdict.{Verdict}
 use Rattle.c2_spec.specs.declared.reason.Reason.{Reason as AnyReason}
-use Rattle.c2_validate.proofs.FileLemmas.{opened_absent, opened_answer, opened_asks, opened_read, opened_refused, store_asks}
+use Rattle.c2_validate.proofs.EachCheck.{each_answer, each_external_answer, each_external_asks, each_list}
+use Rattle.c2_validate.proofs.FileLemmas.{opened_absent, opened_answer, opened_asks, opened_read, opened_refused, store_answers, store_asks}
 use Rattle.c2_validate.proofs.OneCheck.{one_answer, one_list}
 use Rattle.c2_validate.proofs.OneExternal.{one_external_answer, one_external_asks, own_store}
-use Rattle.c2_validate.specs.Checked.{IsOpenedFrom, StoreAsks}
+use Rattle.c2_validate.specs.Checked.{IsCheckedOver, IsOpenedFrom, StoreAsks, answer_as}
 use Rattle.c2_validate.specs.External.{ExternalAsks, IsExternalAnswer, OwnStoreAnswers}
 use Rattle.c2_validate.specs.Validation.{IsAnswered}
+use Rattle.c2_validate.specs.declared.checking.Checked.{Checked as AnyChecked}
 use Rattle.c2_validate.specs.declared.checking.OpenedStore.{OpenedStore as AnyOpenedStore}
 use Rattle.c2_validate.specs.declared.external.External.{External as AnyExternal}
-use Rattle.std.specs.Prelude.{List, ℕ, ◌≡◌}
+use Rattle.std.specs.Prelude.{All, List, ℕ, ◌<◌, ◌^◌, ◌≡◌}
 use Rattle.c2_opening.specs.declared.types.Opened.TheVariants as opened
 
 -- a file has one answer at most, one list of questions that its check asks, and one of all its questions
 pub one_check_answer : (hash : Alg → List ℕ → List ℕ) (said : Question → Verdict) (file : List ℕ) (a b : AnyAnswer)
     → IsAnswer hash said file a → IsAnswer hash said file b → a ≡ b
-one_check_answer = one_answer one_opening_file
+one_check_answer = one_answer
 
 -- a file has one answer at most, one list of questions that its check asks, and one of all its questions
 pub one_check_asks : (hash : Alg → List ℕ → List ℕ) (said : Question → Verdict) (file : List ℕ) (ps qs : List Question)
     → CheckAsks hash said file ps → CheckAsks hash said file qs → ps ≡ qs
-one_check_asks = λ hash said. one_list one_opening_file (check_asks hash said)
+one_check_asks = λ hash said. one_list (check_asks hash said)
 
 -- a file has one answer at most, one list of questions that its check asks, and one of all its questions
 pub one_check_questions : (file : List ℕ) (ps qs : List Question) → AreQuestions file ps → AreQuestions file qs
     → ps ≡ qs
-one_check_questions = one_list one_opening_file questions
+one_check_questions = one_list questions
+
+-- each file has an answer, a list of questions that its check asks, and one of all its questions
+pub each_file_has_a_check_answer : (hash : Alg → List ℕ → List ℕ) (said : Question → Verdict) (file : List ℕ)
+    → All (λ b. b < 2 ^ 8) file → (a : AnyAnswer) × IsAnswer hash said file a
+each_file_has_a_check_answer = each_answer
+
+-- each file has an answer, a list of questions that its check asks, and one of all its questions
+pub each_file_has_a_check_asks : (hash : Alg → List ℕ → List ℕ) (said : Question → Verdict) (file : List ℕ)
+    → All (λ b. b < 2 ^ 8) file → (qs : List Question) × CheckAsks hash said file qs
+each_file_has_a_check_asks = λ hash said. each_list (check_asks hash said)
+
+-- each file has an answer, a list of questions that its check asks, and one of all its questions
+pub each_file_has_a_check_questions : (file : List ℕ) → All (λ b. b < 2 ^ 8) file
+    → (qs : List Question) × AreQuestions file qs
+each_file_has_a_check_questions = each_list questions
 
 -- what a file was found to be, and what its store was read as, it is opened as
 pub a_file_is_opened_as_it_was_read_refused : (file : List ℕ) (reason : AnyReason) (number : ℕ)
@@ -60,7 +76,7 @@ a_file_is_opened_as_it_was_read_read = opened_read
 pub a_file_answers_by_what_it_is_opened_as_answer :
     (hash : Alg → List ℕ → List ℕ) (said : Question → Verdict) (file : List ℕ) (what : Opening Tree) (a : AnyAnswer)
     → IsOpened file what → IsOpenedAnswer hash said file what a → IsAnswered hash said file a
-a_file_answers_by_what_it_is_opened_as_answer = opened_answer one_check_answer
+a_file_answers_by_what_it_is_opened_as_answer = opened_answer
 
 -- the check of a file answers what is answered over what the file is opened as, and asks what is asked over that
 pub a_file_answers_by_what_it_is_opened_as_asks :
@@ -68,6 +84,14 @@ pub a_file_answers_by_what_it_is_opened_as_asks :
     (qs : List Question)
     → IsOpened file what → CheckAsks hash said file qs → OpenedAsks (check_asks hash said) what qs
 a_file_answers_by_what_it_is_opened_as_asks = opened_asks
+
+-- the check of a file answers what is answered over the store that was opened from it, and asks what is asked over that
+pub a_store_answers_for_its_file_answer :
+    (hash : Alg → List ℕ → List ℕ) (said : Question → Verdict) (file : List ℕ) (o : AnyOpenedStore)
+    (checked : AnyChecked)
+    → All (λ b. b < 2 ^ 8) file → IsOpenedFrom file o → IsCheckedOver hash said o file checked
+    → IsAnswered hash said file (answer_as checked)
+a_store_answers_for_its_file_answer = store_answers
 
 -- the check of a file answers what is answered over the store that was opened from it, and asks what is asked over that
 pub a_store_answers_for_its_file_asks :
@@ -86,6 +110,18 @@ pub one_external_check_asks :
     (hash : Alg → List ℕ → List ℕ) (store file : List ℕ) (said : Question → Verdict) (ps qs : List Question)
     → ExternalAsks hash store file said ps → ExternalAsks hash store file said qs → ps ≡ qs
 one_external_check_asks = one_external_asks
+
+-- each file has an answer with each external store, and a list of questions that its check asks
+pub each_file_has_an_external_check_answer :
+    (hash : Alg → List ℕ → List ℕ) (said : Question → Verdict) (file store : List ℕ) → All (λ b. b < 2 ^ 8) file
+    → All (λ b. b < 2 ^ 8) store → (a : AnyExternal) × IsExternalAnswer hash said file store a
+each_file_has_an_external_check_answer = each_external_answer
+
+-- each file has an answer with each external store, and a list of questions that its check asks
+pub each_file_has_an_external_check_asks :
+    (hash : Alg → List ℕ → List ℕ) (store file : List ℕ) (said : Question → Verdict) → All (λ b. b < 2 ^ 8) file
+    → All (λ b. b < 2 ^ 8) store → (qs : List Question) × ExternalAsks hash store file said qs
+each_file_has_an_external_check_asks = each_external_asks
 
 -- a file with a store in it, checked with that store as an external one, has its own answer, but for the count of excluded positions outside the embedded range
 pub a_file_and_its_own_store_have_the_answer_of_the_file : OwnStoreAnswers

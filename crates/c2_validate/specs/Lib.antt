@@ -3,5 +3,4 @@ pub mod Boxes
 pub mod Checked
 pub mod Checks
 pub mod Counts
-pub mod EachLaws
 pub mod Validation

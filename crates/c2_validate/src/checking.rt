@@ -16,7 +16,6 @@ ghost use Rattle.c2_validate.specs.Validation.{FileAsks, IsAnswered};
 
 use crate::chain::check_chain;
 use crate::counting::summary;
-use crate::laws::each_file_has_a_check;
 use c2_base::{NoMemory, Range, Source};
 use c2_chain::{Chain, ChainError, active_manifest, check_active, of_store};
 use c2_hard_binding::{Bound, BoundText, check_binding};
@@ -248,7 +247,6 @@ pub fn validate<S: Source, H: Hashing>(
     ensures panel { HearsPanel says asked_times judge_faults validate_heard
         (AsksKnown (S.known source.old) (FileAsks H.digest_of)) judges.old judges.new result }
 {
-    each_file_has_a_check();
     let opened = match find_store(alloc, source) {
         Ok(opened) => opened,
         Err(error) => return Err(error),

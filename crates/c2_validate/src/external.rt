@@ -14,7 +14,6 @@ ghost use Rattle.c2_validate.specs.External.{ListAsks};
 ghost use Rattle.c2_validate.specs.Checked.{IsCheckReadCause, validate_heard};
 
 use crate::checking::{StoreBoxes, check_boxes};
-use crate::laws::{each_file_has_an_external_check, one_external_check};
 use c2_base::limits::MAX_STORE_LEN;
 use c2_base::{NoMemory, Range, Source};
 use c2_container::Container;
@@ -153,8 +152,6 @@ pub fn check_with<S: Source, H: Hashing>(
         (AsksKnown (S.known source.old) (ExternalAsks H.digest_of store.now))
         judges.old judges.new result }
 {
-    one_external_check();
-    each_file_has_an_external_check();
     let opened = match find_store(alloc, source) {
         Ok(opened) => opened,
         Err(error) => return Err(error),

@@ -8,7 +8,6 @@ use Rattle.c2_spec.specs.Bmff.Store.{HasBmffStore, HasNoBmffStore, is_other_box}
 use Rattle.c2_spec.specs.Bmff.Writing.{base_roots, freed, is_file_end, same}
 use Rattle.c2_spec.proofs.BmffOneList.{roots_once}
 use Rattle.c2_bmff_boxes.specs.Roots.{AreRootsOf, FillFile, FillSource}
-use Rattle.c2_bmff_insert_spec.specs.Laws.{BaseHasNoStore}
 use Rattle.c2_bmff_rows.specs.Rows.{row_of}
 use Rattle.c2_bmff_rows.specs.declared.row.RootBox.{RootBox}
 use Rattle.c2_without_store.specs.Clears.{AreRootsLeft, cleared, cleared_len, clearing_in, ends_file, freed_row, moved_row, no_range, row_range, rows_behind, rows_left}
@@ -16,6 +15,7 @@ use Rattle.c2_without_store.specs.Lengths.{cleared_fits}
 use Rattle.c2_without_store.specs.declared.clearing.Clearing.TheVariants.{Cut, Freed}
 use Rattle.c2_without_store.proofs.Clearings.{found_among, store_base}
 use Rattle.c2_bmff_insert_spec.proofs.Bases.{freed_len}
+use Rattle.c2_bmff_insert_spec.proofs.TheLaws.{a_base_has_no_store_none}
 use Rattle.c2_lemmas.proofs.Each.{each_front}
 use Rattle.c2_lemmas.proofs.Numbers.{not_equal}
 use Rattle.c2_spec.proofs.BmffShared.{boxes_length_more}
@@ -113,10 +113,10 @@ left_at p start (c ∷ cs) b after h e =
     ∙ ap (λ (bs : List Box). map row_of (placed_from p bs)) (sym (base_more c cs b after))
 
 -- so they are the root boxes of what is left of a file with a store
-pub are_left : BaseHasNoStore → (file : List ℕ) (rows : List RootBox) (start len : ℕ) (store : List ℕ)
+pub are_left : (file : List ℕ) (rows : List RootBox) (start len : ℕ) (store : List ℕ)
     → AreRootsOf file rows → HasBmffStore file start len store
     → AreRootsLeft file (clearing_in start rows) (rows_left start rows)
-are_left law file rows start len store r h =
+are_left file rows start len store r h =
     let s = h.holds in
     let f = found_among file rows start len store r h in
     let boxes : List Box = base_roots s.before s.holder s.after in
@@ -124,7 +124,7 @@ are_left law file rows start len store r h =
     record {
       boxes = boxes;
       base = base;
-      has_roots = (law file (cleared (clearing_in start rows) file) boxes base).0;
+      has_roots = (a_base_has_no_store_none file (cleared (clearing_in start rows) file) boxes base).0;
       are =
           ap (rows_left start) f.split
           ∙ left_at 0 start s.before s.holder s.after (each_front IsBox s.before (s.holder ∷ s.after) f.all)

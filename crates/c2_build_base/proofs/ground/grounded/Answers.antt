@@ -1,4 +1,3 @@
-use Rattle.c2_new_file_spec.proofs.ParentLaws.{a_valid_store_is_carried_some}
 use Rattle.std.proofs.Common.{map, refl, sym, subst}
 use Rattle.std.specs.Prelude.{Err, Ok}
 use Rattle.c2_spec.specs.C2pa.Manifest.{manifests_of}
@@ -109,7 +108,7 @@ returns-clause-ground g c = λ bytes known kind is.
     subst
     (λ (x : MediaKind). ComesAs (IsGround (hash (new_alg d)) bytes d) (IsGroundStage hash said bytes d x) c.over_store.result)
     (sym same)
-    (stored_over a_valid_store_is_carried_some hash said bytes d o.range.start o.range.length o.tree c.args.file.now.clearing (subst (λ (x : MediaKind). IsMediaStage bytes (Ok x)) same is.stage)
+    (stored_over hash said bytes d o.range.start o.range.length o.tree c.args.file.now.clearing (subst (λ (x : MediaKind). IsMediaStage bytes (Ok x)) same is.stage)
     (subst (λ (x : MediaKind). IsClearedTo bytes x c.args.file.now.clearing) same is.clears) (c.in-Ok-check_parent.ensures.checked bytes known from) c.over_store.result
     (λ rs reads. c.over_store.ensures.over rs reads) (λ rs reads. over_refused d o.tree c.over_store.result rs reads c.over_store.ensures.refused))
 

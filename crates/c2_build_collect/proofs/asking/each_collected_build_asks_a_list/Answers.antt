@@ -1,15 +1,10 @@
-use Rattle.c2_collect_spec.proofs.TheLaws.{each_collected_build_comes_to_something_made, each_collected_build_comes_to_something_plan}
 use Rattle.c2_build_collect.proofs.Questioned.{some_embed_asks, some_plan_asks}
 use Rattle.c2_build_collect.proofs.asking.each_collected_build_asks_a_list.Goals as goal
 
 -- each stage comes to something, and a check asks a list: so for a plan
 pub returns-clause-plan : goal.returns-clause-plan
-returns-clause-plan c =
-    some_plan_asks c.each_file_has_a_check.ensures.asks c.each_file_has_a_check.ensures.answer
-    each_collected_build_comes_to_something_plan
+returns-clause-plan c = some_plan_asks
 
 -- and for a new file
 pub returns-clause-embedding : goal.returns-clause-embedding
-returns-clause-embedding c =
-    some_embed_asks c.each_file_has_a_check.ensures.asks c.each_file_has_a_check.ensures.answer
-    each_collected_build_comes_to_something_made
+returns-clause-embedding c = some_embed_asks

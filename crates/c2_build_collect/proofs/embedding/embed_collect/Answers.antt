@@ -1,5 +1,4 @@
-use Rattle.c2_opening.proofs.TheLaws.{one_opening_file}
-use Rattle.c2_collect_spec.proofs.TheLaws.{a_collected_build_comes_to_one_thing_made, a_made_collected_file_meets_the_rules}
+use Rattle.c2_collect_spec.proofs.TheLaws.{a_made_collected_file_meets_the_rules}
 use Rattle.std.proofs.Common.{map, refl, sym, ◌∙◌}
 use Rattle.std.specs.Prelude.{Err, Ok}
 use Rattle.c2_spec.specs.Judges.Panel.{panel_says}
@@ -80,12 +79,10 @@ pub returns-in-Err-write_file-clause-embedded : goal.returns-in-Err-write_file-c
 returns-in-Err-write_file-clause-embedded g c = λ file known bytes due message due' others undue.
     let said = panel_says (map (λ j. (goal.Judge-dyn g (j.vtable, j.value)).says j.value) c.args.judges.now.items) in
     let hash = g.H.Hashing.digest_of in
-    let once = one_opening_file in
     let h = c.in-Ok.ensures.prepared.ready file known bytes due message due' others undue in
     let whole =
     c.in-Err-write_file.ensures.written.whole file (c.in-Ok.ensures.sources.media.stays.same_bytes ∙ known) in
     broken_off g.K.Sink.written g.K.Sink.spare g.K.Sink.finished hash said file bytes message others
-    (λ x y a b. a_collected_build_comes_to_one_thing_made hash said file bytes message others x y (λ v w p q. once file v w p q) (λ v w p q. once others v w p q) a b)
     c.in-Ok.ready h.0 c.args.out.now c.write_file.new.out c.in-Err-write_file.error c.copy_fault.result c.copy_fault.ensures h.1 h.2 whole
 
 pub returns-in-Err-write_file-clause-sources : goal.returns-in-Err-write_file-clause-sources

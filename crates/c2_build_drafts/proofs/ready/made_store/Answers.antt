@@ -1,5 +1,3 @@
-use Rattle.c2_new_file_spec.proofs.BmffLaws.{a_new_bmff_store_has_one_length_store}
-use Rattle.c2_new_file_spec.proofs.StoreLaws.{a_new_store_has_one_length}
 use Rattle.std.proofs.Common.{List, ap, arith, length, option_map, subst, sym, ℕ}
 use Rattle.c2_new_file_spec.specs.Store.{new_alg}
 use Rattle.c2_without_store.specs.Clears.{cleared, cleared_len}
@@ -36,8 +34,8 @@ returns-in-Ok-new_store-clause-packs g c =
     let made =
     subst (λ (x : List ℕ). IsMade d w.ground.carried parts x c.in-Ok-new_store.store)
     c.as_slice-message.ensures.value c.in-Ok-new_store.ensures in
-    draft_packs a_new_store_has_one_length a_new_bmff_store_has_one_length_store
-    (g.H.Hashing.digest_of (new_alg d)) (option_map (cleared w.ground.clearing) (g.A.Source.known c.args.media.now))
+    draft_packs (g.H.Hashing.digest_of (new_alg d))
+    (option_map (cleared w.ground.clearing) (g.A.Source.known c.args.media.now))
     (cleared_len w.ground.clearing (g.A.Source.len c.args.media.now)) d w parts c.args.build.now.message
     c.in-Ok-new_store.store (λ text. (g.met.H.Hashing.is_digest (new_alg d) text).sized) c.in-Ok.ensures.parts
     c.requires.fits.filled c.requires.fits.small made

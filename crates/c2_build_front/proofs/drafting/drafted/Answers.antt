@@ -1,4 +1,3 @@
-use Rattle.c2_new_front_spec.proofs.TheLaws.{a_front_is_refused_or_planned_planned}
 use Rattle.std.proofs.Common.{inl, inr, sym, ◌∙◌}
 use Rattle.std.proofs.lemmas.Result.{IfErr-weaker, IfOk-weaker}
 use Rattle.c2_build_refusals.proofs.Outside.{outside_map}
@@ -35,7 +34,7 @@ returns-clause-drafted g c =
     let none =
     bmff_free bytes c.args.file.now.older kind is.stage.0 film.0 (sym c.is_some.ensures ∙ c.if-is_some.false)
     is.older is.stage.2 in
-    drafted_over a_front_is_refused_or_planned_planned bytes is.stage.0 film.1.boxes c.args.definition.now f
+    drafted_over bytes is.stage.0 film.1.boxes c.args.definition.now f
     (g.met.A.Source.known_bytes c.args.media.now bytes known) (opened_as bytes kind is.stage) none film.1.has_roots
     (said bytes known film.1.boxes film.1.has_roots film.1.are)) c.draft_over.ensures.drafted
 

@@ -1,4 +1,3 @@
-use Rattle.c2_new_front_spec.proofs.TheLaws.{the_covered_text_is_known_first}
 use Rattle.std.proofs.Common.{arith, subst, sym}
 use Rattle.c2_new_file_spec.specs.Store.{new_alg}
 use Rattle.c2_build_refusals.proofs.Media.{media_caused, media_said}
@@ -11,7 +10,7 @@ use Rattle.c2_build_front.proofs.parts.parts_over.Goals as goal
 -- the new file has root boxes, so nothing is refused of it
 pub returns-in-Err-clause-nothing : goal.returns-in-Err-clause-nothing
 returns-in-Err-clause-nothing g c = λ file known what k.
-    let roots = roots_of_new the_covered_text_is_known_first file what c.args.definition.now c.args.front.now k in
+    let roots = roots_of_new file what c.args.definition.now c.args.front.now k in
     subst SaysNothing (sym c.media_error.ensures) (media_said ⊥ c.in-Err.error (c.in-Err.ensures.refused file known roots.0 roots.1))
 
 pub returns-in-Err-clause-reads : goal.returns-in-Err-clause-reads
@@ -30,5 +29,5 @@ returns-in-Ok-parts_with-clause-parts g c = record {
   sized = c.in-Ok.ensures.len;
   parts = c.in-Ok-parts_with.ensures.parts;
   is_digest =
-      λ file known what k. digest_is the_covered_text_is_known_first (g.H.Hashing.digest_of (new_alg c.args.definition.now)) c.in-Ok.digest file what c.args.definition.now c.args.front.now k (c.in-Ok.ensures.digest file known);
+      λ file known what k. digest_is (g.H.Hashing.digest_of (new_alg c.args.definition.now)) c.in-Ok.digest file what c.args.definition.now c.args.front.now k (c.in-Ok.ensures.digest file known);
 }

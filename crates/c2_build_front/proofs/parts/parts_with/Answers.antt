@@ -1,4 +1,3 @@
-use Rattle.c2_new_file_spec.proofs.BmffLaws.{a_new_bmff_store_has_one_length_store}
 use Rattle.std.proofs.Common.{ap, length, subst, sym, ◌≡◌, ◌≤◌, ◌∙◌}
 use Rattle.std.proofs.lemmas.Result.{IfOk-weaker}
 use Rattle.c2_base.specs.declared.limits.TheConstants.{MAX_STORE_LEN}
@@ -31,7 +30,7 @@ bound_parts-requires-clause-small g c =
           (λ text. (g.met.H.Hashing.is_digest (new_alg d) text).sized);
       small =
           subst (λ (b : NewAssertion). bound_len (fresh_content d) b d.reserve ≤ MAX_STORE_LEN) (sym binding)
-          (subst (λ n. n ≤ MAX_STORE_LEN) (sym (bound_is a_new_bmff_store_has_one_length_store d c.args.digest.now c.requires.digest)) c.requires.small);
+          (subst (λ n. n ≤ MAX_STORE_LEN) (sym (bound_is d c.args.digest.now c.requires.digest)) c.requires.small);
     }
 
 -- the parts are made with this digest
@@ -59,5 +58,5 @@ returns-clause-size g c =
     let bound =
     ap (λ (b : NewAssertion). bound_len (fresh_content d) b d.reserve)
     (c.in_ok-binding.ensures ∙ ap (new_bmff_binding (new_alg d)) c.as_slice.ensures) in
-    let fixed = bound_is a_new_bmff_store_has_one_length_store d c.args.digest.now c.requires.digest in
+    let fixed = bound_is d c.args.digest.now c.requires.digest in
     sized_is _ _ _ none (all ∙ bound ∙ fixed)) c.bound_parts.ensures.size

@@ -1,4 +1,3 @@
-use Rattle.c2_new_lengths_spec.proofs.TheLaws.{the_length_of_a_new_store_fits}
 use Rattle.std.proofs.Common.{refl}
 use Rattle.std.specs.Prelude.{Err}
 use Rattle.c2_calls_spec.proofs.SourceLemmas.{reads_nothing, stays_as_it_was}
@@ -67,7 +66,7 @@ returns-clause-planned g c = λ file known bytes due.
     answer_next (front.IsMediaStage file) (IsPlannedOver g.H.Hashing.digest_of file bytes) media.2.stage.0
     c.plan_over.result (opened_as file media.0 media.2.stage)
     (answer_next (front.IsDefinitionStage bytes) _ d c.plan_over.result (defined_as bytes d stage)
-    (c.plan_over.ensures.planned file known media.0 media.2 (has_size the_length_of_a_new_store_fits bytes d stage)))
+    (c.plan_over.ensures.planned file known media.0 media.2 (has_size bytes d stage)))
 
 pub returns-clause-not_due : goal.returns-clause-not_due
 returns-clause-not_due g c = λ file known refused.

@@ -1,4 +1,3 @@
-use Rattle.c2_new_file_spec.proofs.BmffLaws.{a_new_bmff_store_has_one_length_store}
 use Rattle.std.proofs.Common.{◌<◌, ap, arith, length, subst, sym}
 use Rattle.c2_spec.specs.Jpeg.Writing.{IsPacketStore}
 use Rattle.c2_new_file_spec.proofs.BuiltLemmas.{packet_store}
@@ -40,7 +39,7 @@ returns-in-Ok-new_store-clause-can_write g c =
     c.in-Ok-new_store.ensures (hash (new_alg d)) (fresh_content d) (new_bmff_binding (new_alg d) parts.digest)
     fresh parts.parts in
     let size =
-    filled_is a_new_bmff_store_has_one_length_store (hash (new_alg d)) d parts.digest c.args.message.now
+    filled_is (hash (new_alg d)) d parts.digest c.args.message.now
     (λ text. (g.met.H.Hashing.is_digest (new_alg d) text).sized) parts.sized c.requires.filled in
     record {
       fits = c.requires.fits;

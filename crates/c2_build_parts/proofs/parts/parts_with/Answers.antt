@@ -1,5 +1,3 @@
-use Rattle.c2_new_file_spec.proofs.BmffLaws.{a_new_bmff_store_has_one_length_store}
-use Rattle.c2_new_file_spec.proofs.StoreLaws.{a_new_store_has_one_length}
 use Rattle.std.proofs.Common.{◌≤◌, ap, subst, sym, ◌∙◌}
 use Rattle.c2_base.specs.declared.limits.TheConstants.{MAX_STORE_LEN}
 use Rattle.c2_definition.specs.declared.types.Definition.{Definition}
@@ -25,9 +23,8 @@ bound_parts-requires-clause-small g c =
     let w = c.args.drafted.now in
     let s = c.requires.small.1 in
     let size =
-    point_bound a_new_store_has_one_length a_new_bmff_store_has_one_length_store s.content c.args.definition.now
-    s.is.definition w.point w.draft.start w.draft.length c.args.digest.now c.args.definition.now.reserve
-    c.requires.digest
+    point_bound s.content c.args.definition.now s.is.definition w.point w.draft.start w.draft.length
+    c.args.digest.now c.args.definition.now.reserve c.requires.digest
     ∙ ap (λ (d : Definition). point_size w.point s.content d.reserve) (sym s.is.definition) ∙ point_size_is w.point s.content in
     subst (CanBeBound (g.H.Hashing.digest_of (new_alg c.args.definition.now)) c.args.definition.now w.ground.carried)
     (sym c.in_ok-binding.ensures)
@@ -45,7 +42,6 @@ pub returns-clause-size : goal.returns-clause-size
 returns-clause-size g c =
     let w = c.args.drafted.now in
     IfOk-weaker c.bound_parts.result _ _ (λ p said content is. said content is ∙ ap (λ (b : NewAssertion). bound_len content b c.args.definition.now.reserve) c.in_ok-binding.ensures
-    ∙ point_bound a_new_store_has_one_length a_new_bmff_store_has_one_length_store content c.args.definition.now
-    is.definition w.point w.draft.start w.draft.length c.args.digest.now c.args.definition.now.reserve
-    c.requires.digest
+    ∙ point_bound content c.args.definition.now is.definition w.point w.draft.start w.draft.length
+    c.args.digest.now c.args.definition.now.reserve c.requires.digest
     ∙ ap (λ (d : Definition). point_size w.point content d.reserve) (sym is.definition) ∙ point_size_is w.point content) c.bound_parts.ensures.size

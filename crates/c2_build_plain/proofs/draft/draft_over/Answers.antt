@@ -1,4 +1,3 @@
-use Rattle.c2_new_lengths_spec.proofs.TheLaws.{the_length_of_a_new_store_fits}
 use Rattle.std.proofs.Common.{inl, map, sym, ◌∙◌, subst, ℕ}
 use Rattle.std.proofs.lemmas.Result.{IfErr-weaker, IfOk-weaker}
 use Rattle.c2_spec.specs.Judges.Panel.{panel_says}
@@ -46,7 +45,7 @@ returns-clause-refused g c = IfErr-weaker c.draft_in_place.result _ _ (λ e refu
     subst (λ (n : ℕ). IsWithin n c.args.file.now.contained.now)
     (sym (g.met.A.Source.known_len c.args.media.now bytes known)) c.requires.within in
     outside_map e (place_refused hash said bytes d kind over.0 e over.1) (refused bytes (hash (new_alg d)) over.0 (record { found = is.found; within = within }) over.2
-    (λ s. ground_len the_length_of_a_new_store_fits hash said bytes d kind over.0 s of_file is.stage over.1))) c.draft_in_place.ensures.refused
+    (λ s. ground_len hash said bytes d kind over.0 s of_file is.stage over.1))) c.draft_in_place.ensures.refused
 
 -- no test fails
 pub returns-clause-passed : goal.returns-clause-passed

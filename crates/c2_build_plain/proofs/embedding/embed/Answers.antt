@@ -1,4 +1,4 @@
-use Rattle.c2_build_plain.proofs.TheLaws.{a_build_comes_to_one_thing_embedding, a_new_file_meets_the_rules}
+use Rattle.c2_build_plain.proofs.TheLaws.{a_new_file_meets_the_rules}
 use Rattle.std.proofs.Common.{map, refl, sym, ◌∙◌}
 use Rattle.std.specs.Prelude.{Err, Ok}
 use Rattle.c2_spec.specs.Judges.Panel.{panel_says}
@@ -48,7 +48,7 @@ returns-in-Ok-write_file-clause-embedded g c = λ file known bytes due message d
     let h = c.in-Ok.ensures.prepared.ready file known bytes due message due' in
     let whole =
     c.in-Ok-write_file.ensures.written.whole file (c.in-Ok.ensures.sources.media.stays.same_bytes ∙ known) in
-    let told = told_of_file a_build_comes_to_one_thing_embedding hash said file bytes message h.0 h.1 due in
+    let told = told_of_file hash said file bytes message h.0 h.1 due in
     record {
       answered = (h.0, h.1, range_is c.in-Ok.ready h.0 _ h.2 refl refl);
       wrote =
@@ -77,11 +77,10 @@ pub returns-in-Err-write_file-clause-embedded : goal.returns-in-Err-write_file-c
 returns-in-Err-write_file-clause-embedded g c = λ file known bytes due message due'.
     let said = panel_says (map (λ j. (goal.Judge-dyn g (j.vtable, j.value)).says j.value) c.args.judges.now.items) in
     let hash = g.H.Hashing.digest_of in
-    let one = a_build_comes_to_one_thing_embedding in
     let h = c.in-Ok.ensures.prepared.ready file known bytes due message due' in
     let whole =
     c.in-Err-write_file.ensures.written.whole file (c.in-Ok.ensures.sources.media.stays.same_bytes ∙ known) in
-    broken_off g.K.Sink.written g.K.Sink.spare g.K.Sink.finished one hash said file bytes message c.in-Ok.ready h.0 c.args.out.now c.write_file.new.out c.in-Err-write_file.error c.copy_fault.result c.copy_fault.ensures h.1 h.2 whole
+    broken_off g.K.Sink.written g.K.Sink.spare g.K.Sink.finished hash said file bytes message c.in-Ok.ready h.0 c.args.out.now c.write_file.new.out c.in-Err-write_file.error c.copy_fault.result c.copy_fault.ensures h.1 h.2 whole
 
 pub returns-in-Err-write_file-clause-sources : goal.returns-in-Err-write_file-clause-sources
 returns-in-Err-write_file-clause-sources g c =

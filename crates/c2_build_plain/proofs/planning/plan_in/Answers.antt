@@ -1,5 +1,3 @@
-use Rattle.c2_opening.proofs.TheLaws.{one_opening_file}
-use Rattle.c2_definition.proofs.TheLaws.{each_definition_is_read_one_way_one}
 use Rattle.c2_lemmas.proofs.Stages.{stage_value}
 use Rattle.std.proofs.Common.{map, refl}
 use Rattle.std.specs.Prelude.{Err}
@@ -33,7 +31,7 @@ pub returns-in-Err-clause-panel : goal.returns-in-Err-clause-panel
 returns-in-Err-clause-panel g c =
     let said = panel_says (map (λ j. (goal.Judge-dyn g (j.vtable, j.value)).says j.value) c.args.judges.now.items) in
     hears_none c.args.judges.now c.in-Err.error (quiet_unheard _ c.in-Err.ensures.quiet)
-    (refused_plan one_opening_file g.H.Hashing.digest_of said (g.A.Source.known c.args.media.now) (g.B.Source.known c.args.definition.now) c.in-Err.error (λ file known. c.in-Err.ensures.stage file (c.requires.found file known)))
+    (refused_plan g.H.Hashing.digest_of said (g.A.Source.known c.args.media.now) (g.B.Source.known c.args.definition.now) c.in-Err.error (λ file known. c.in-Err.ensures.stage file (c.requires.found file known)))
 
 -- ---- the definition is refused
 
@@ -66,7 +64,7 @@ pub returns-in-Err-read_definition_file-clause-panel : goal.returns-in-Err-read_
 returns-in-Err-read_definition_file-clause-panel g c =
     let said = panel_says (map (λ j. (goal.Judge-dyn g (j.vtable, j.value)).says j.value) c.args.judges.now.items) in
     hears_none c.args.judges.now c.in-Err-read_definition_file.error (read_unheard no_effects _ _ _ c.in-Err-read_definition_file.ensures.cause)
-    (undefined_plan one_opening_file g.H.Hashing.digest_of said (g.A.Source.known c.args.media.now) (g.B.Source.known c.args.definition.now) each_definition_is_read_one_way_one c.in-Ok.read
+    (undefined_plan g.H.Hashing.digest_of said (g.A.Source.known c.args.media.now) (g.B.Source.known c.args.definition.now) c.in-Ok.read
     (λ file known. let media = c.in-Ok.ensures.stage file (c.requires.found file known) in (media.0, media.2)) c.in-Err-read_definition_file.error (λ bytes known. c.in-Err-read_definition_file.ensures.stage bytes known))
 
 -- ---- what comes behind the media and the definition
@@ -105,5 +103,5 @@ pub returns-clause-panel : goal.returns-clause-panel
 returns-clause-panel g c =
     let said = panel_says (map (λ j. (goal.Judge-dyn g (j.vtable, j.value)).says j.value) c.args.judges.now.items) in
     hears_as c.args.judges.now c.plan_over.new.judges c.plan_over.result
-    (planned_asks one_opening_file g.H.Hashing.digest_of said (g.A.Source.known c.args.media.now) (g.B.Source.known c.args.definition.now) each_definition_is_read_one_way_one c.in-Ok.read
+    (planned_asks g.H.Hashing.digest_of said (g.A.Source.known c.args.media.now) (g.B.Source.known c.args.definition.now) c.in-Ok.read
     (λ file known. let media = c.in-Ok.ensures.stage file (c.requires.found file known) in (media.0, media.2)) c.in-Ok-read_definition_file.definition (λ bytes known. c.in-Ok-read_definition_file.ensures.stage bytes known)) c.plan_over.ensures.panel

@@ -14,7 +14,7 @@ use Rattle.c2_cmd.proofs.run_command.run.Goals as goal
 -- without a reply
 pub returns-in-Err-clause-known : goal.returns-in-Err-clause-known
 returns-in-Err-clause-known g c known =
-    ends_known c.each_run_has_an_outcome.ensures.outcome (g.met.A.Source.known_bytes c.args.media.now)
+    ends_known (g.met.A.Source.known_bytes c.args.media.now)
     (g.met.B.Source.known_bytes c.args.second.now) (g.met.C.Source.known_bytes c.args.third.now)
     (g.met.D.Source.known_bytes c.args.fourth.now) g.met.H.Hashing.is_digest
     (runs_failed c.in-Err.fault c.fault_status.ensures
@@ -24,7 +24,7 @@ returns-in-Err-clause-known g c known =
 -- once the reply is delivered
 pub returns-in-Ok-deliver-clause-known : goal.returns-in-Ok-deliver-clause-known
 returns-in-Ok-deliver-clause-known g c known =
-    ends_known c.each_run_has_an_outcome.ensures.outcome (g.met.A.Source.known_bytes c.args.media.now)
+    ends_known (g.met.A.Source.known_bytes c.args.media.now)
     (g.met.B.Source.known_bytes c.args.second.now) (g.met.C.Source.known_bytes c.args.third.now)
     (g.met.D.Source.known_bytes c.args.fourth.now) g.met.H.Hashing.is_digest
     (runs_answered c.in-Ok.reply _ _ _ c.status.ensures (c.in-Ok.ensures.known known)
@@ -33,7 +33,7 @@ returns-in-Ok-deliver-clause-known g c known =
 -- where the report fails under it
 pub returns-clause-known : goal.returns-clause-known
 returns-clause-known g c known =
-    ends_known c.each_run_has_an_outcome.ensures.outcome (g.met.A.Source.known_bytes c.args.media.now)
+    ends_known (g.met.A.Source.known_bytes c.args.media.now)
     (g.met.B.Source.known_bytes c.args.second.now) (g.met.C.Source.known_bytes c.args.third.now)
     (g.met.D.Source.known_bytes c.args.fourth.now) g.met.H.Hashing.is_digest
     (runs_untold c.in-Ok.reply _ _ _ (c.in-Ok.ensures.known known) c.deliver.ensures.prefix

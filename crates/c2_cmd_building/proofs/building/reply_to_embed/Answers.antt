@@ -1,4 +1,3 @@
-use Rattle.c2_build_plain.proofs.TheLaws.{a_build_comes_to_one_thing_embedding}
 use Rattle.std.proofs.Common.{map, refl}
 use Rattle.c2_spec.specs.Judges.Panel.{panel_says}
 use Rattle.c2_build_plain.specs.Answers.{embed_effects}
@@ -13,7 +12,7 @@ use Rattle.c2_cmd_building.proofs.building.reply_to_embed.Goals as goal
 pub returns-clause-made : goal.returns-clause-made
 returns-clause-made g c = λ a known b told m spoken.
     let said = panel_says (map (λ j. (goal.Judge-dyn g (j.vtable, j.value)).says j.value) c.args.judges.now.items) in
-    file_made g.K.Sink.written g.K.Sink.spare g.K.Sink.finished a_build_comes_to_one_thing_embedding
+    file_made g.K.Sink.written g.K.Sink.spare g.K.Sink.finished
     g.H.Hashing.digest_of said a b m
     c.args.out.now c.embed-embedded.new.out c.embed-embedded.result c.embedded_reply.result
     (c.embed-embedded.ensures.embedded a known b told m spoken) c.embed-embedded.ensures.sink.ends

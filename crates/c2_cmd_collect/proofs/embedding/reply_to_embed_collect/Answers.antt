@@ -1,5 +1,3 @@
-use Rattle.c2_opening.proofs.TheLaws.{one_opening_file}
-use Rattle.c2_collect_spec.proofs.TheLaws.{a_collected_build_comes_to_one_thing_made}
 use Rattle.std.proofs.Common.{map, refl}
 use Rattle.c2_spec.specs.Judges.Panel.{panel_says}
 use Rattle.c2_build_collect.specs.Answers.{embed_effects}
@@ -15,7 +13,6 @@ returns-clause-made g c = λ a known b told m spoken o others.
     let said = panel_says (map (λ j. (goal.Judge-dyn g (j.vtable, j.value)).says j.value) c.args.judges.now.items) in
     collect_made g.K.Sink.written g.K.Sink.spare g.K.Sink.finished g.H.Hashing.digest_of said a b m o
     c.args.out.now c.embed_collect-embedded.new.out c.embed_collect-embedded.result c.embedded_reply.result
-    (λ x y. a_collected_build_comes_to_one_thing_made g.H.Hashing.digest_of said a b m o x y (one_opening_file a) (one_opening_file o))
     (c.embed_collect-embedded.ensures.embedded a known b told m spoken o others)
     c.embed_collect-embedded.ensures.sink.ends
     c.embedded_reply.ensures.reply c.embedded_reply.ensures.fault

@@ -1,5 +1,3 @@
-use Rattle.c2_opening.proofs.TheLaws.{one_opening_file}
-use Rattle.c2_compare_spec.proofs.TheLaws.{one_comparison_answer}
 use Rattle.std.proofs.Common.{◌≡◌, map}
 use Rattle.c2_base.specs.Causes.{Rose}
 use Rattle.c2_spec.specs.Judges.Panel.{panel_says}
@@ -13,7 +11,6 @@ use Rattle.c2_cmd_outcome.specs.declared.reply.Fault.{Fault}
 use Rattle.c2_cmd_outcome.specs.declared.reply.Fault.TheVariants.{Judge}
 use Rattle.c2_cmd_reading.proofs.Comparing.{fault_begins, reply_begins}
 use Rattle.c2_cmd_reading.proofs.Faults.{comparison_cause, comparison_heard, judge_failed, memory_only, report_cause, unbroken}
-use Rattle.c2_cmd_reading.proofs.OneOutcome.{one_compared}
 use Rattle.c2_cmd_reading.proofs.compare.reply_to_compare.Goals as goal
 
 -- ---- the files come to something
@@ -21,9 +18,7 @@ use Rattle.c2_cmd_reading.proofs.compare.reply_to_compare.Goals as goal
 pub returns-in-Ok-clause-reply : goal.returns-in-Ok-clause-reply
 returns-in-Ok-clause-reply g c a known b due =
     let said = panel_says (map (λ j. (goal.Judge-dyn g (j.vtable, j.value)).says j.value) c.args.judges.now.items) in
-    reply_begins g.H.Hashing.digest_of said a b
-    (one_compared g.H.Hashing.digest_of said a b (one_comparison_answer g.H.Hashing.digest_of said a b (one_opening_file a) (one_opening_file b)))
-    (g.W.Sink.written c.args.report.now) (g.W.Sink.written c.compare.new.report) c.in-Ok.what c.reply_to_compared.result (c.in-Ok.ensures.compared a known b due) c.reply_to_compared.ensures.reply
+    reply_begins g.H.Hashing.digest_of said a b (g.W.Sink.written c.args.report.now) (g.W.Sink.written c.compare.new.report) c.in-Ok.what c.reply_to_compared.result (c.in-Ok.ensures.compared a known b due) c.reply_to_compared.ensures.reply
 
 pub returns-in-Ok-clause-media : goal.returns-in-Ok-clause-media
 returns-in-Ok-clause-media g c =

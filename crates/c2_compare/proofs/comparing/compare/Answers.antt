@@ -1,5 +1,3 @@
-use Rattle.c2_opening.proofs.TheLaws.{one_opening_file}
-use Rattle.c2_compare_spec.proofs.TheLaws.{one_comparison_answer}
 use Rattle.std.proofs.Common.{map}
 use Rattle.c2_spec.specs.Judges.Panel.{panel_says}
 use Rattle.c2_compare.proofs.Answering.{compared_as}
@@ -10,8 +8,7 @@ pub returns-clause-compared : goal.returns-clause-compared
 returns-clause-compared g c = λ a known b due.
     let said = panel_says (map (λ j. (goal.Judge-dyn g (j.vtable, j.value)).says j.value) c.args.judges.now.items) in
     let hash = g.H.Hashing.digest_of in
-    compared_as hash said a b (one_comparison_answer hash said a b (one_opening_file a) (one_opening_file b))
-    (g.W.Sink.written c.args.report.now) (g.W.Sink.written c.find_first.new.report) c.find_first.result
+    compared_as hash said a b (g.W.Sink.written c.args.report.now) (g.W.Sink.written c.find_first.new.report) c.find_first.result
     (c.find_first.ensures.compared a known b due)
 
 -- what is left of the sources and the report

@@ -1,4 +1,3 @@
-use Rattle.c2_new_file_spec.proofs.StoreLaws.{new_stores_have_one_length}
 use Rattle.std.proofs.Common.{◌+◌, ◌-◌, ◌^◌, min, List, ℕ, [], ◌∷◌, ◌++◌, length, sym, ap, ◌∙◌}
 use Rattle.c2_spec.specs.Jumbf.Tree.{trees_bytes}
 use Rattle.c2_definition.specs.declared.types.NewAssertion.{NewAssertion}
@@ -36,4 +35,4 @@ returns-clause-len c = λ hash content is.
     c.saturating_add-filled.ensures
     (c.saturating_add-2.ensures ∙ ap (λ (x : List ℕ). min (c.saturating_add-filled.result + length x) most) carried)
     ∙ ap (λ n. min n most)
-    (sym (reckoned_size new_stores_have_one_length hash d c.args.carried.now content b d.reserve is))
+    (sym (reckoned_size hash d c.args.carried.now content b d.reserve is))

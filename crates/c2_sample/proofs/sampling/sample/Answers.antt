@@ -1,4 +1,3 @@
-use Rattle.c2_build_plain.proofs.TheLaws.{a_build_comes_to_one_thing_embedding}
 use Rattle.std.proofs.Common.{ap, arith, length, map, subst}
 use Rattle.std.proofs.lemmas.Result.{IfOk-weaker}
 use Rattle.c2_spec.specs.Judges.Panel.{panel_says}
@@ -33,7 +32,7 @@ returns-in-Ok-Built-clause-panel g c =
     let built = subst (IsNewFile g.H.Hashing.digest_of c.in-Ok.media) c.in-Ok-Built.field-0-is c.in-Ok-Built.ensures in
     hears_same _ _ _ sample_heard (λ said. SampleAsks g.H.Hashing.digest_of said c.args.count) _ c.args.judges.now
     c.check.new.judges c.check.result
-    (λ qs asks. built_asks a_build_comes_to_one_thing_embedding g.H.Hashing.digest_of said c.args.count c.in-Ok.media c.in-Ok-Built.file qs c.in-Ok.ensures built asks) c.check.ensures.panel
+    (λ qs asks. built_asks g.H.Hashing.digest_of said c.args.count c.in-Ok.media c.in-Ok-Built.file qs c.in-Ok.ensures built asks) c.check.ensures.panel
 
 -- nobody is asked where nothing is built
 pub returns-in-Ok-Refused-clause-panel : goal.returns-in-Ok-Refused-clause-panel
@@ -42,7 +41,7 @@ returns-in-Ok-Refused-clause-panel g c =
     let refused =
     subst (IsNewFile g.H.Hashing.digest_of c.in-Ok.media) c.in-Ok-Refused.field-0-is c.in-Ok-Refused.ensures in
     hears_nobody _ _ _ sample_heard (λ said. SampleAsks g.H.Hashing.digest_of said c.args.count) c.args.judges.now _
-    (λ qs asks. refused_asks a_build_comes_to_one_thing_embedding g.H.Hashing.digest_of said c.args.count c.in-Ok.media c.in-Ok-Refused.error qs c.in-Ok.ensures refused asks)
+    (λ qs asks. refused_asks g.H.Hashing.digest_of said c.args.count c.in-Ok.media c.in-Ok-Refused.error qs c.in-Ok.ensures refused asks)
 
 -- the media is small
 pub build-requires : goal.build-requires

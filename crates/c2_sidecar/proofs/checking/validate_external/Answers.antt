@@ -22,7 +22,7 @@ returns-clause-answer g c = λ file known bytes where_due.
     let contained = c.in-Ok.contained in
     let located = c.in-Ok.ensures.said file known in
     let held = due (g.T.Source.known c.args.store.now) file bytes contained located where_due in
-    list_is c.each_file_has_an_external_check.ensures.answer g.H.Hashing.digest_of said file bytes contained
+    list_is g.H.Hashing.digest_of said file bytes contained
     c.check_read.result (g.met.S.Source.known_bytes c.args.source.now file known)
     (g.met.T.Source.known_bytes c.args.store.now bytes held) located
     (subst (λ (x : Container). IfOk c.check_read.result (IsListAnswered g.H.Hashing.digest_of said x bytes file)) c.container_of-container.ensures (c.check_read.ensures.answer file (c.in-Ok.ensures.stays.same_bytes ∙ known) bytes held))

@@ -24,7 +24,7 @@ returns-in-Err-clause-panel g c =
 
 pub returns-in-Here-clause-answer : goal.returns-in-Here-clause-answer
 returns-in-Here-clause-answer g c = λ file known.
-    found_answered c.each_file_has_a_check.ensures.answer g.H.Hashing.digest_of
+    found_answered g.H.Hashing.digest_of
     (panel_says (map (λ j. (goal.Judge-dyn g (j.vtable, j.value)).says j.value) c.args.judges.now.items))
     file c.in-Here.media c.check_media.result (g.met.S.Source.known_bytes c.args.source.now file known)
     (subst (IsFound file) c.in-Here.is (c.in-Ok.ensures.found file known))

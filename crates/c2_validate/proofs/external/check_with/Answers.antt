@@ -23,7 +23,7 @@ returns-in-Err-clause-panel g c =
 
 pub returns-in-Here-clause-answer : goal.returns-in-Here-clause-answer
 returns-in-Here-clause-answer g c = λ file known.
-    external_here c.each_file_has_an_external_check.ensures.answer g.H.Hashing.digest_of
+    external_here g.H.Hashing.digest_of
     (panel_says (map (λ j. (goal.Judge-dyn g (j.vtable, j.value)).says j.value) c.args.judges.now.items)) file
     c.args.store.now c.in-Here.media c.check_external.result (g.met.S.Source.known_bytes c.args.source.now file known)
     (All-from_get_or (λ b. b < 2 ^ 8) c.args.store.now 0 (λ i lt. omega (arith, c.type_inv.store i)))
@@ -44,7 +44,7 @@ returns-in-Here-clause-panel g c =
 
 pub returns-in-NoStore-clause-answer : goal.returns-in-NoStore-clause-answer
 returns-in-NoStore-clause-answer g c = λ file known.
-    external_none c.each_file_has_an_external_check.ensures.answer g.H.Hashing.digest_of
+    external_none g.H.Hashing.digest_of
     (panel_says (map (λ j. (goal.Judge-dyn g (j.vtable, j.value)).says j.value) c.args.judges.now.items)) file
     c.args.store.now c.in-NoStore.container c.check_external-in-NoStore.result
     (g.met.S.Source.known_bytes c.args.source.now file known)
@@ -63,7 +63,7 @@ returns-in-NoStore-clause-panel g c =
 
 pub returns-in-Refused-clause-answer : goal.returns-in-Refused-clause-answer
 returns-in-Refused-clause-answer g c = λ file known.
-    external_refused c.each_file_has_an_external_check.ensures.answer g.H.Hashing.digest_of
+    external_refused g.H.Hashing.digest_of
     (panel_says (map (λ j. (goal.Judge-dyn g (j.vtable, j.value)).says j.value) c.args.judges.now.items)) file
     c.args.store.now c.in-Refused.reason c.in-Refused.number (g.met.S.Source.known_bytes c.args.source.now file known)
     (All-from_get_or (λ b. b < 2 ^ 8) c.args.store.now 0 (λ i lt. omega (arith, c.type_inv.store i)))

@@ -1,4 +1,3 @@
-use Rattle.c2_bmff_insert_spec.proofs.TheLaws.{a_base_has_no_store_none}
 use Rattle.std.proofs.Common.{Option, Ok, List, sym, ap, ◌∙◌, subst}
 use Rattle.c2_base.specs.declared.media.Found.{Found}
 use Rattle.c2_bmff_boxes.specs.Roots.{FillFile, FillSource}
@@ -37,7 +36,7 @@ returns-clause-roots c = λ file roots found.
     let has = subst (λ (o : Option Found). IsStoreOr file (Ok o)) c.in-Some.is found in
     subst (λ (o : Option Found). AreRootsLeft file (root_clearing o c.args.roots.now) c.roots_of-2.result) (sym c.in-Some.is)
     (subst (λ (rows : List RootBox). AreRootsLeft file (clearing_in store.start c.args.roots.now) rows) (sym (c.roots_of-2.ensures ∙ c.in_ok-left.ensures ∙ ap (rows_left store.start) c.as_slice-rows.ensures.boxes))
-    (are_left a_base_has_no_store_none file c.args.roots.now store.start store.length store.store roots has))
+    (are_left file c.args.roots.now store.start store.length store.store roots has))
 
 pub returns-clause-fill : goal.returns-clause-fill
 returns-clause-fill c = λ len fill.

@@ -1,4 +1,3 @@
-use Rattle.c2_collect_spec.proofs.TheLaws.{the_length_of_a_collected_store_fits_fits}
 use Rattle.std.proofs.Common.{inl, map, ℕ, sym, ◌∙◌, subst}
 use Rattle.std.proofs.lemmas.Result.{IfErr-weaker, IfOk-weaker}
 use Rattle.c2_spec.specs.Judges.Panel.{panel_says}
@@ -63,7 +62,7 @@ returns-clause-drafted g c = λ bytes known kind is others told.
     draft_of hash said bytes others what d k kept.0 opened stage kept.1 kept.2 c.draft_in_place.result
     (IfOk-weaker c.draft_in_place.result _ (λ w. IsDraftedOver (hash (new_alg d)) bytes d w ground) (λ w at. at bytes (hash (new_alg d)) ground file is_kept) c.draft_in_place.ensures.passed)
     (λ of_file. IfErr-weaker c.draft_in_place.result _ (λ e. WithoutFault e (IsRefusedAt ground e)) (λ e refused. refused bytes (hash (new_alg d)) ground file is_kept
-    (over_len hash said bytes others what d k kept.0 opened stage kept.1 kept.2 the_length_of_a_collected_store_fits_fits of_file)) c.draft_in_place.ensures.refused)
+    (over_len hash said bytes others what d k kept.0 opened stage kept.1 kept.2 of_file)) c.draft_in_place.ensures.refused)
 
 pub returns-clause-small : goal.returns-clause-small
 returns-clause-small g c =

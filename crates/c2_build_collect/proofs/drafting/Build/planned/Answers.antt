@@ -1,9 +1,10 @@
 use Rattle.std.proofs.Common.{map, subst, sym, ℕ, ◌∙◌}
 use Rattle.std.proofs.lemmas.Result.{IfOk-weaker}
+use Rattle.c2_lemmas.specs.Stages.{Then}
 use Rattle.c2_spec.specs.Judges.Panel.{panel_says}
 use Rattle.c2_new_file_spec.specs.Store.{new_alg}
 use Rattle.c2_without_store.specs.Clears.{cleared_len}
-use Rattle.c2_collect_spec.specs.Outcomes.{IsPairStage, IsPlannedOver, Then, ground_signed}
+use Rattle.c2_collect_spec.specs.Outcomes.{IsPairStage, IsPlannedOver, ground_signed}
 use Rattle.c2_build_collect_base.specs.Grounds.{ground_effects, opening_of}
 use Rattle.c2_build_refusals.specs.Kinds.{no_effects}
 use Rattle.c2_build_refusals.proofs.Judged.{hears_behind, hears_failed, read_result}

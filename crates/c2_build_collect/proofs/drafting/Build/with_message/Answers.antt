@@ -1,4 +1,3 @@
-use Rattle.c2_new_signature.proofs.TheLaws.{a_message_fills_its_reserve_or_needs_more}
 use Rattle.std.proofs.Common.{map}
 use Rattle.c2_spec.specs.C2pa.Sign1.{parts_of}
 use Rattle.c2_spec.specs.Judges.Panel.{panel_says}
@@ -39,7 +38,7 @@ pub returns-clause-build : goal.returns-clause-build
 returns-clause-build g c = λ of_file bytes known kind is others told.
     let said = panel_says (map (λ j. (goal.Judge-dyn g (j.vtable, j.value)).says j.value) c.args.judges.now.items) in
     draft_filled g.H.Hashing.digest_of said bytes others (opening_of kind) c.args.self.now.definition.now
-    a_message_fills_its_reserve_or_needs_more (parts_of c.args.sign.now) c.in-Ok.drafted c.filled.result
+    (parts_of c.args.sign.now) c.in-Ok.drafted c.filled.result
     (c.in-Ok.ensures.drafted bytes known kind is others told) c.filled.ensures.same c.filled.ensures.signed
     c.filled.ensures.refused
 

@@ -1,12 +1,10 @@
-use Rattle.c2_opening.proofs.TheLaws.{one_opening_file}
-use Rattle.c2_definition.proofs.TheLaws.{each_definition_is_read_one_way_one}
-use Rattle.c2_new_signature.proofs.TheLaws.{each_message_is_accepted_or_refused_for_one_test}
 use Rattle.std.proofs.Common.{List, inl, inr, map, refl, subst, sym, ℕ, ◌⊎◌}
 use Rattle.std.specs.Prelude.{Err, Ok}
+use Rattle.c2_lemmas.specs.Stages.{Then}
 use Rattle.c2_spec.specs.C2pa.Sign1.{SignParts, parts_of}
 use Rattle.c2_spec.specs.Judges.Panel.{panel_says}
 use Rattle.c2_calls_spec.proofs.SourceLemmas.{stays_as_it_was}
-use Rattle.c2_collect_spec.specs.Outcomes.{IsMadeOver, IsPairStage, Then}
+use Rattle.c2_collect_spec.specs.Outcomes.{IsMadeOver, IsPairStage}
 use Rattle.c2_collect_spec.specs.Outcomes as collect
 use Rattle.c2_collect_spec.proofs.SomeOutcome.{defined_of}
 use Rattle.c2_build_collect_base.specs.Grounds.{opening_of}
@@ -22,7 +20,6 @@ use Rattle.c2_build_collect.proofs.Due.{definition_told, message_told, not_accep
 use Rattle.c2_build_collect.proofs.Stages.{build_next, defined_as, message_as, message_error, opened_as, refused_first, refused_next}
 use Rattle.c2_build_collect.proofs.Unasked.{embedded_asks, unsigned_embed}
 use Rattle.c2_build_collect.proofs.drafting.Build.with_signature.Goals as goal
-use Rattle.c2_cbor_spec.proofs.PlainBack.{one_item}
 
 -- ---- the message is refused
 
@@ -31,15 +28,13 @@ returns-in-Err-clause-build g c = λ told_of of. record {
   build = λ file known bytes due signed due' others undue.
       let said = panel_says (map (λ j. (goal.Judge-dyn g (j.vtable, j.value)).says j.value) c.args.judges.now.items) in
       let hash = g.H.Hashing.digest_of in
-      let one = one_opening_file in
-      let defined = each_definition_is_read_one_way_one in
       let e = c.in-Err.error in
       let d = c.args.self.now.definition.now in
       let media = c.requires.kind file known in
-      let told = definition_told one hash said file media.0 media.1.stage told_of bytes due in
+      let told = definition_told hash said file media.0 media.1.stage told_of bytes due in
       let read = of.stage bytes told in
       let spoken =
-      message_told one hash said file media.0 media.1.stage defined d bytes read
+      message_told hash said file media.0 media.1.stage d bytes read
       (g.C.Source.known c.args.signature.now) signed due' in
       let stage =
       subst (λ (x : List ℕ). WithoutFault e (IsMessageStage x signed (Err e))) c.as_slice-protected.ensures.value
@@ -89,8 +84,8 @@ returns-in-Err-clause-panel g c = λ told_of of.
     let e = c.in-Err.error in
     let d = c.args.self.now.definition.now in
     hears_none c.args.judges.now e (read_unheard message_effects _ _ _ c.in-Err.ensures.cause)
-    (unsigned_embed one_opening_file g.H.Hashing.digest_of said (g.A.Source.known c.args.media.now) told_of (g.C.Source.known c.args.signature.now) (g.D.Source.known c.args.other.now) each_definition_is_read_one_way_one c.args.self.now.file.now
-    (λ file known. c.requires.kind file known) one_item each_message_is_accepted_or_refused_for_one_test d (λ bytes known. of.stage bytes known) e
+    (unsigned_embed g.H.Hashing.digest_of said (g.A.Source.known c.args.media.now) told_of (g.C.Source.known c.args.signature.now) (g.D.Source.known c.args.other.now) c.args.self.now.file.now
+    (λ file known. c.requires.kind file known) d (λ bytes known. of.stage bytes known) e
     (λ signed known. subst (λ (x : List ℕ). WithoutFault e (IsMessageStage x signed (Err e))) c.as_slice-protected.ensures.value (c.in-Err.ensures.stage signed known)))
 
 -- ---- the message is read, and then comes what is behind it
@@ -103,24 +98,22 @@ returns-clause-build g c = λ told_of of. record {
   build = λ file known bytes due signed due' others undue.
       let said = panel_says (map (λ j. (goal.Judge-dyn g (j.vtable, j.value)).says j.value) c.args.judges.now.items) in
       let hash = g.H.Hashing.digest_of in
-      let one = one_opening_file in
-      let defined = each_definition_is_read_one_way_one in
       let d = c.args.self.now.definition.now in
       let r = build_of d c.with_message.result in
       let media = c.requires.kind file known in
-      let told = definition_told one hash said file media.0 media.1.stage told_of bytes due in
+      let told = definition_told hash said file media.0 media.1.stage told_of bytes due in
       let read = of.stage bytes told in
       let spoken =
-      message_told one hash said file media.0 media.1.stage defined d bytes read
+      message_told hash said file media.0 media.1.stage d bytes read
       (g.C.Source.known c.args.signature.now) signed due' in
       let as_read = defined_as bytes d read in
       let m = c.in-Ok.ensures.stage signed spoken in
       let stage = subst (λ (x : List ℕ). IsMessageStage x signed (Ok m.0)) c.as_slice-protected.ensures.value m.1 in
       let own =
-      other_told one hash said file media.0 media.1.stage
+      other_told hash said file media.0 media.1.stage
       {NotDue = IsDefinitionRefused bytes ⊎ IsMessageRefused bytes signed} (g.D.Source.known c.args.other.now)
       others
-      (unsigned each_message_is_accepted_or_refused_for_one_test d m.0 bytes signed read stage) undue in
+      (unsigned d m.0 bytes signed read stage) undue in
       let over =
       subst
       (λ (p : SignParts). IsBuildFor hash file (Then (IsPairStage hash said file others (opening_of media.0) d) (IsMadeOver hash d p)) r)
@@ -146,10 +139,10 @@ returns-clause-not_due g c = λ told_of of.
             λ bytes known refused. not_both_definitions bytes d (of.stage bytes known) refused;
       };
       other_unread_first = λ file known refused. let media = c.requires.kind file known in
-          c.with_message.ensures.not_due file known media.0 media.1 (not_accepted one_opening_file hash said file media.0 media.1.stage refused);
+          c.with_message.ensures.not_due file known media.0 media.1 (not_accepted hash said file media.0 media.1.stage refused);
       other_unread_then =
           λ bytes known refused. absurd (undefined d bytes (of.stage bytes known) refused);
-      other_unread = λ refused. absurd (untold each_message_is_accepted_or_refused_for_one_test d (parts_of c.in-Ok.sign) told_of (g.C.Source.known c.args.signature.now)
+      other_unread = λ refused. absurd (untold d (parts_of c.in-Ok.sign) told_of (g.C.Source.known c.args.signature.now)
           (λ bytes known. of.stage bytes known)
           (λ signed known. let m = c.in-Ok.ensures.stage signed known in
           subst (λ (p : SignParts). IsMessageStage d.protected signed (Ok p)) (sym m.2) (subst (λ (x : List ℕ). IsMessageStage x signed (Ok m.0)) c.as_slice-protected.ensures.value m.1)) refused);
@@ -175,8 +168,8 @@ returns-clause-panel g c = λ told_of of.
     let said = panel_says (map (λ j. (goal.Judge-dyn g (j.vtable, j.value)).says j.value) c.args.judges.now.items) in
     let d = c.args.self.now.definition.now in
     hears_as c.args.judges.now c.with_message.new.judges c.with_message.result
-    (embedded_asks one_opening_file g.H.Hashing.digest_of said (g.A.Source.known c.args.media.now) told_of (g.C.Source.known c.args.signature.now) (g.D.Source.known c.args.other.now) each_definition_is_read_one_way_one c.args.self.now.file.now
-    (λ file known. c.requires.kind file known) one_item each_message_is_accepted_or_refused_for_one_test d
+    (embedded_asks g.H.Hashing.digest_of said (g.A.Source.known c.args.media.now) told_of (g.C.Source.known c.args.signature.now) (g.D.Source.known c.args.other.now) c.args.self.now.file.now
+    (λ file known. c.requires.kind file known) d
     (λ bytes known. of.stage bytes known) (parts_of c.in-Ok.sign)
     (λ signed known. let m = c.in-Ok.ensures.stage signed known in
     subst (λ (p : SignParts). IsMessageStage d.protected signed (Ok p)) (sym m.2) (subst (λ (x : List ℕ). IsMessageStage x signed (Ok m.0)) c.as_slice-protected.ensures.value m.1))) c.with_message.ensures.panel

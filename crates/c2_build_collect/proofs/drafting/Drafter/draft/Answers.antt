@@ -1,5 +1,3 @@
-use Rattle.c2_opening.proofs.TheLaws.{one_opening_file}
-use Rattle.c2_definition.proofs.TheLaws.{each_definition_is_read_one_way_one}
 use Rattle.std.proofs.Common.{inl, inr, map, refl, subst, sym}
 use Rattle.std.specs.Prelude.{Err, Result}
 use Rattle.c2_spec.specs.Judges.Panel.{panel_says}
@@ -30,7 +28,7 @@ returns-in-Err-clause-build g c = record {
       let e = c.in-Err.error in
       let media = c.requires.kind file known in
       let told =
-      definition_told one_opening_file g.H.Hashing.digest_of said file media.0 media.1.stage
+      definition_told g.H.Hashing.digest_of said file media.0 media.1.stage
       (g.B.Source.known c.args.definition.now) bytes due in
       outside_map e (λ s. refused_next (collect.IsMediaStage file) _ (opening_of media.0) e (opened_as file media.0 media.1.stage)
       (refused_first (collect.IsDefinitionStage bytes) _ e (definition_error bytes e s))) (c.in-Err.ensures.stage bytes told);
@@ -74,7 +72,7 @@ pub returns-in-Err-clause-panel : goal.returns-in-Err-clause-panel
 returns-in-Err-clause-panel g c =
     let said = panel_says (map (λ j. (goal.Judge-dyn g (j.vtable, j.value)).says j.value) c.args.judges.now.items) in
     hears_none c.args.judges.now c.in-Err.error (read_unheard no_effects _ _ _ c.in-Err.ensures.cause)
-    (undefined_embed one_opening_file g.H.Hashing.digest_of said (g.A.Source.known c.args.media.now) (g.B.Source.known c.args.definition.now) (g.C.Source.known c.args.signature.now) (g.D.Source.known c.args.other.now) each_definition_is_read_one_way_one c.args.self.now.file.now
+    (undefined_embed g.H.Hashing.digest_of said (g.A.Source.known c.args.media.now) (g.B.Source.known c.args.definition.now) (g.C.Source.known c.args.signature.now) (g.D.Source.known c.args.other.now) c.args.self.now.file.now
     (λ file known. c.requires.kind file known) c.in-Err.error (λ bytes known. c.in-Err.ensures.stage bytes known))
 
 -- ---- what comes behind it

@@ -1,5 +1,3 @@
-use Rattle.c2_opening.proofs.TheLaws.{one_opening_file}
-use Rattle.c2_definition.proofs.TheLaws.{each_definition_is_read_one_way_one}
 use Rattle.std.proofs.Common.{inl, inr, map, refl}
 use Rattle.std.specs.Prelude.{Err}
 use Rattle.c2_spec.specs.Judges.Panel.{panel_says}
@@ -25,7 +23,7 @@ returns-in-Err-clause-planned g c = λ file known bytes due others undue.
     let e = c.in-Err.error in
     let media = c.requires.kind file known in
     let told =
-    definition_told one_opening_file g.H.Hashing.digest_of said file media.0 media.1.stage
+    definition_told g.H.Hashing.digest_of said file media.0 media.1.stage
     (g.B.Source.known c.args.definition.now) bytes due in
     outside_map e (λ s. refused_next (collect.IsMediaStage file) _ (opening_of media.0) e (opened_as file media.0 media.1.stage)
     (refused_first (collect.IsDefinitionStage bytes) _ e (definition_error bytes e s))) (c.in-Err.ensures.stage bytes told)
@@ -56,7 +54,7 @@ pub returns-in-Err-clause-panel : goal.returns-in-Err-clause-panel
 returns-in-Err-clause-panel g c =
     let said = panel_says (map (λ j. (goal.Judge-dyn g (j.vtable, j.value)).says j.value) c.args.judges.now.items) in
     hears_none c.args.judges.now c.in-Err.error (read_unheard no_effects _ _ _ c.in-Err.ensures.cause)
-    (undefined_plan one_opening_file g.H.Hashing.digest_of said (g.A.Source.known c.args.media.now) (g.B.Source.known c.args.definition.now) (g.D.Source.known c.args.other.now) each_definition_is_read_one_way_one c.args.self.now.file.now
+    (undefined_plan g.H.Hashing.digest_of said (g.A.Source.known c.args.media.now) (g.B.Source.known c.args.definition.now) (g.D.Source.known c.args.other.now) c.args.self.now.file.now
     (λ file known. c.requires.kind file known) c.in-Err.error (λ bytes known. c.in-Err.ensures.stage bytes known))
 
 -- ---- what comes behind the media and the definition
@@ -70,14 +68,13 @@ returns-clause-planned g c = λ file known bytes due others undue.
     let said = panel_says (map (λ j. (goal.Judge-dyn g (j.vtable, j.value)).says j.value) c.args.judges.now.items) in
     let hash = g.H.Hashing.digest_of in
     let d = c.in-Ok.definition in
-    let one = one_opening_file in
     let media = c.requires.kind file known in
     let told =
-    definition_told one hash said file media.0 media.1.stage (g.B.Source.known c.args.definition.now) bytes due in
+    definition_told hash said file media.0 media.1.stage (g.B.Source.known c.args.definition.now) bytes due in
     let stage = c.in-Ok.ensures.stage bytes told in
     let as_read = defined_as bytes d stage in
     let own =
-    other_told one hash said file media.0 media.1.stage {NotDue = IsDefinitionRefused bytes}
+    other_told hash said file media.0 media.1.stage {NotDue = IsDefinitionRefused bytes}
     (g.D.Source.known c.args.other.now) others (undefined d bytes stage) undue in
     answer_next (collect.IsMediaStage file) _ (opening_of media.0) c.planned.result
     (opened_as file media.0 media.1.stage)
@@ -87,11 +84,10 @@ pub returns-clause-not_due : goal.returns-clause-not_due
 returns-clause-not_due g c =
     let said = panel_says (map (λ j. (goal.Judge-dyn g (j.vtable, j.value)).says j.value) c.args.judges.now.items) in
     let hash = g.H.Hashing.digest_of in
-    let one = one_opening_file in
     record {
       definition_unread = λ file known refused. let media = c.requires.kind file known in not_both_media file media.0 media.1.stage refused;
       other_unread_first = λ file known refused. let media = c.requires.kind file known in
-          c.planned.ensures.not_due file known media.0 media.1 (not_accepted one hash said file media.0 media.1.stage refused);
+          c.planned.ensures.not_due file known media.0 media.1 (not_accepted hash said file media.0 media.1.stage refused);
       other_unread =
           λ bytes known refused. absurd (undefined c.in-Ok.definition bytes (c.in-Ok.ensures.stage bytes known) refused);
     }
@@ -110,5 +106,5 @@ pub returns-clause-panel : goal.returns-clause-panel
 returns-clause-panel g c =
     let said = panel_says (map (λ j. (goal.Judge-dyn g (j.vtable, j.value)).says j.value) c.args.judges.now.items) in
     hears_as c.args.judges.now c.planned.new.judges c.planned.result
-    (planned_asks one_opening_file g.H.Hashing.digest_of said (g.A.Source.known c.args.media.now) (g.B.Source.known c.args.definition.now) (g.D.Source.known c.args.other.now) each_definition_is_read_one_way_one c.args.self.now.file.now
+    (planned_asks g.H.Hashing.digest_of said (g.A.Source.known c.args.media.now) (g.B.Source.known c.args.definition.now) (g.D.Source.known c.args.other.now) c.args.self.now.file.now
     (λ file known. c.requires.kind file known) c.in-Ok.definition (λ bytes known. c.in-Ok.ensures.stage bytes known)) c.planned.ensures.panel

@@ -1,4 +1,3 @@
-use Rattle.c2_opening.proofs.TheLaws.{one_opening_file}
 use Rattle.std.proofs.Common.{map, refl}
 use Rattle.c2_spec.specs.Judges.Panel.{panel_says}
 use Rattle.c2_calls_spec.proofs.SourceLemmas.{reads_nothing}
@@ -33,7 +32,7 @@ pub returns-in-Err-clause-panel : goal.returns-in-Err-clause-panel
 returns-in-Err-clause-panel g c =
     let said = panel_says (map (λ j. (goal.Judge-dyn g (j.vtable, j.value)).says j.value) c.args.judges.now.items) in
     hears_none c.args.judges.now c.in-Err.error (quiet_unheard _ c.in-Err.ensures.quiet)
-    (refused_plan one_opening_file g.H.Hashing.digest_of said (g.A.Source.known c.args.media.now) (g.B.Source.known c.args.definition.now) (g.D.Source.known c.args.other.now) c.in-Err.error (λ file known. c.in-Err.ensures.stage file (c.requires.found file known)))
+    (refused_plan g.H.Hashing.digest_of said (g.A.Source.known c.args.media.now) (g.B.Source.known c.args.definition.now) (g.D.Source.known c.args.other.now) c.in-Err.error (λ file known. c.in-Err.ensures.stage file (c.requires.found file known)))
 
 -- ---- what comes behind it
 

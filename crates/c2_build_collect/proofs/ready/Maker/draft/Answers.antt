@@ -1,4 +1,3 @@
-use Rattle.c2_opening.proofs.TheLaws.{one_opening_file}
 use Rattle.std.proofs.Common.{List, Option, inl, map, refl, subst, sym, ℕ, ◌∙◌}
 use Rattle.std.specs.Prelude.{Err}
 use Rattle.std.proofs.lemmas.Result.{IfOk-weaker}
@@ -59,7 +58,7 @@ pub returns-in-Err-clause-panel : goal.returns-in-Err-clause-panel
 returns-in-Err-clause-panel g c =
     let said = panel_says (map (λ j. (goal.Judge-dyn g (j.vtable, j.value)).says j.value) c.args.judges.now.items) in
     hears_none c.args.judges.now c.in-Err.error (read_unheard no_effects _ _ _ c.in-Err.ensures.reads.cause)
-    (refused_embed one_opening_file g.H.Hashing.digest_of said (g.A.Source.known c.args.media.now) (g.B.Source.known c.args.definition.now) (g.C.Source.known c.args.signature.now) (g.D.Source.known c.args.other.now) c.in-Err.error (λ file known. c.in-Err.ensures.refused file known))
+    (refused_embed g.H.Hashing.digest_of said (g.A.Source.known c.args.media.now) (g.B.Source.known c.args.definition.now) (g.C.Source.known c.args.signature.now) (g.D.Source.known c.args.other.now) c.in-Err.error (λ file known. c.in-Err.ensures.refused file known))
 
 -- ---- what comes behind it
 

@@ -1,9 +1,10 @@
 use Rattle.std.proofs.Common.{None, map, refl, sym, subst}
+use Rattle.c2_lemmas.specs.Stages.{Then}
 use Rattle.c2_spec.specs.Judges.Panel.{panel_says}
 use Rattle.c2_spec.specs.Jumbf.Tree.{Tree}
 use Rattle.c2_spec.specs.Located.{Opening, absent}
 use Rattle.c2_calls_spec.proofs.SourceLemmas.{stays_as_it_was}
-use Rattle.c2_collect_spec.specs.Outcomes.{IsJoinedStage, IsOtherStage, IsPairStage, IsParentStage, Then}
+use Rattle.c2_collect_spec.specs.Outcomes.{IsJoinedStage, IsOtherStage, IsPairStage, IsParentStage}
 use Rattle.c2_new_file_spec.specs.Store.{new_alg}
 use Rattle.c2_build_refusals.proofs.Judged.{hears_as}
 use Rattle.c2_build_refusals.proofs.Outside.{alone, reads_among, reads_earlier}

@@ -17,7 +17,7 @@ returns-clause-ground g c = λ hash file m o ours theirs.
     let apart =
     joined_apart hash file _ c.args.ours.now c.args.theirs.now m o c.in-Ok-joined_boxes.joined ours theirs
     c.in-Ok-joined_boxes.ensures.joined in
-    test_stage d m o e apart (tests_refuse c.what_is_joined_is_reached.ensures.reached hash file d c.args.ours.now c.args.theirs.now m o e ours theirs apart c.in-Err-check_joined.ensures.tested)
+    test_stage d m o e apart (tests_refuse hash file d c.args.ours.now c.args.theirs.now m o e ours theirs apart c.in-Err-check_joined.ensures.tested)
 
 -- nothing is refused
 pub returns-in-Ok-check_joined-clause-ground : goal.returns-in-Ok-check_joined-clause-ground
@@ -31,10 +31,10 @@ returns-in-Ok-check_joined-clause-ground g c = λ hash file m o ours theirs.
     same c.in-Ok-joined_boxes.ensures.joined in
     let apart =
     joined_apart hash file _ c.args.ours.now c.args.theirs.now m o c.in-Ok-joined_boxes.joined ours theirs joined in
-    joined_ground c.what_is_collected_is_one.ensures.some (g.H.Hashing.digest_of (new_alg d)) hash file d
+    joined_ground (g.H.Hashing.digest_of (new_alg d)) hash file d
     c.args.ours.now c.args.theirs.now m o c.in-Ok-joined_boxes.joined c.in-Ok-ingredients.ingredients (λ text. (g.met.H.Hashing.is_digest (new_alg d) text).sized) ours theirs c.requires.ours joined
     (subst (λ (rs : List (List ℕ)). NameLast (g.H.Hashing.digest_of (new_alg d)) rs (ingredient_stores store c.args.theirs.now) c.in-Ok-ingredients.ingredients.items) same c.in-Ok-ingredients.ensures)
-    (tests_pass c.what_is_joined_is_reached.ensures.reached hash file d c.args.ours.now c.args.theirs.now m o ours theirs apart c.in-Ok-check_joined.ensures.tested)
+    (tests_pass hash file d c.args.ours.now c.args.theirs.now m o ours theirs apart c.in-Ok-check_joined.ensures.tested)
 
 pub returns-in-Ok-check_joined-clause-some : goal.returns-in-Ok-check_joined-clause-some
 returns-in-Ok-check_joined-clause-some g c =

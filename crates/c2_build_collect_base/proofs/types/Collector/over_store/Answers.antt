@@ -1,5 +1,6 @@
 use Rattle.std.proofs.Common.{List, map, refl, sym, subst}
 use Rattle.std.specs.Prelude.{Err, Ok}
+use Rattle.c2_lemmas.specs.Stages.{Then}
 use Rattle.c2_base.specs.declared.values.Question.{Question}
 use Rattle.c2_spec.specs.C2pa.Manifest.{manifests_of}
 use Rattle.c2_spec.specs.Judges.Panel.{panel_says}
@@ -8,7 +9,7 @@ use Rattle.c2_spec.specs.Located.{Opening, here}
 use Rattle.c2_spec.specs.declared.panel.Verdict.{Verdict}
 use Rattle.c2_calls_spec.proofs.PanelLemmas.{hears_early}
 use Rattle.c2_calls_spec.proofs.SourceLemmas.{reads_nothing, stays_as_it_was}
-use Rattle.c2_collect_spec.specs.Outcomes.{IsJoinedStage, IsOtherStage, IsPairStage, IsParentStage, Then}
+use Rattle.c2_collect_spec.specs.Outcomes.{IsJoinedStage, IsOtherStage, IsPairStage, IsParentStage}
 use Rattle.c2_container.specs.Contained.{HasRootsInside}
 use Rattle.c2_rules.specs.Claims.{Chained}
 use Rattle.c2_rules.specs.Readings.{AreReadings}
@@ -85,7 +86,7 @@ returns-in-Err-check_parent-clause-panel g c =
     subst (λ (x : Chained). AreReadings (manifests_of o.tree) x.readings) (sym c.opened_in-store.ensures.chain)
     c.in-Ok.ensures.reads in
     hears_begun c.args.judges.now c.check_parent.new.judges e (asks_unwritten _ _ _ c.in-Err-check_parent.ensures.reads.cause)
-    (stored_begins c.one_reading.ensures.manifests hash said (g.A.Source.known c.args.media.now) (g.D.Source.known c.args.other.now) file o c.opened_in-store.result e c.requires.older reads
+    (stored_begins hash said (g.A.Source.known c.args.media.now) (g.D.Source.known c.args.other.now) file o c.opened_in-store.result e c.requires.older reads
     (λ bytes kind known is.
     let opened = opened_older bytes file o kind c.requires.older is in
     let from =
@@ -116,7 +117,7 @@ returns-clause-ground g c = λ bytes known kind is others told.
     c.opened_in-store.ensures.range
     (subst (λ (x : Chained). AreReadings (manifests_of o.tree) x.readings) (sym c.opened_in-store.ensures.chain) c.in-Ok.ensures.reads) in
     let passed =
-    stored_passes c.one_reading.ensures.manifests c.a_store_is_rooted_at_its_last_manifest.ensures hash said bytes o
+    stored_passes hash said bytes o
     c.store_with.result file.clearing c.store_with.ensures.older
     (opened_older bytes file o kind c.requires.older is) (stored_left bytes file o kind c.requires.older is) (c.in-Ok-check_parent.ensures.checked bytes known from)
     (read_store o _ c.store_with.result c.store_with.ensures.older c.store_with.ensures.chain (subst HasBoxes c.requires.older c.requires.read.boxes) c.in-Ok.ensures.reads) in
@@ -142,7 +143,7 @@ returns-clause-not_due g c = λ bytes known kind is refused.
     c.opened_in-store.ensures.range
     (subst (λ (x : Chained). AreReadings (manifests_of o.tree) x.readings) (sym c.opened_in-store.ensures.chain) c.in-Ok.ensures.reads) in
     let passed =
-    stored_passes c.one_reading.ensures.manifests c.a_store_is_rooted_at_its_last_manifest.ensures hash said bytes o
+    stored_passes hash said bytes o
     c.store_with.result file.clearing c.store_with.ensures.older
     (opened_older bytes file o kind c.requires.older is) (stored_left bytes file o kind c.requires.older is) (c.in-Ok-check_parent.ensures.checked bytes known from)
     (read_store o _ c.store_with.result c.store_with.ensures.older c.store_with.ensures.chain (subst HasBoxes c.requires.older c.requires.read.boxes) c.in-Ok.ensures.reads) in
@@ -159,12 +160,12 @@ returns-clause-panel g c =
     subst (λ (x : Chained). AreReadings (manifests_of o.tree) x.readings) (sym c.opened_in-store.ensures.chain)
     c.in-Ok.ensures.reads in
     hears_both c.args.judges.now c.check_parent.new.judges c.with_other.new.judges tt c.with_other.result
-    (stored_asked c.one_reading.ensures.manifests hash said (g.A.Source.known c.args.media.now) (g.D.Source.known c.args.other.now) file o c.opened_in-store.result c.requires.older reads
+    (stored_asked hash said (g.A.Source.known c.args.media.now) (g.D.Source.known c.args.other.now) file o c.opened_in-store.result c.requires.older reads
     (λ bytes kind known is refused.
     let from =
     opened_from bytes file o kind c.opened_in-store.result c.requires.older is
     c.opened_in-store.ensures.container c.opened_in-store.ensures.range reads in
-    (stored_passes c.one_reading.ensures.manifests c.a_store_is_rooted_at_its_last_manifest.ensures hash said bytes o c.store_with.result file.clearing c.store_with.ensures.older
+    (stored_passes hash said bytes o c.store_with.result file.clearing c.store_with.ensures.older
     (opened_older bytes file o kind c.requires.older is) (stored_left bytes file o kind c.requires.older is) (c.in-Ok-check_parent.ensures.checked bytes known from)
     (read_store o _ c.store_with.result c.store_with.ensures.older c.store_with.ensures.chain (subst HasBoxes c.requires.older c.requires.read.boxes) c.in-Ok.ensures.reads)).only
     (subst (λ (w : Opening Tree). IsParentRefused hash said bytes w) (stored_opening bytes file o kind c.requires.older is) refused))) c.in-Ok-check_parent.ensures.panel c.with_other.ensures.panel

@@ -68,7 +68,7 @@ returns-clause-ground g c = λ others known file m ours.
     c.opened_in-store.ensures.container c.opened_in-store.ensures.range c.opened_in-store.ensures.chain
     c.in-Ok.ensures.reads in
     let passed =
-    other_passes c.one_reading.ensures.manifests c.a_store_is_rooted_at_its_last_manifest.ensures hash said others
+    other_passes hash said others
     c.args.read.now c.store_with-theirs.result c.store_with-theirs.ensures.older there.opened
     (c.in-Ok-check_other.ensures.checked others known from)
     (read_store c.args.read.now _ c.store_with-theirs.result c.store_with-theirs.ensures.older c.store_with-theirs.ensures.chain c.requires.boxes c.in-Ok.ensures.reads) in

@@ -1,4 +1,3 @@
-use Rattle.c2_new_lengths_spec.proofs.TheLaws.{the_length_of_a_new_store_fits}
 use Rattle.std.proofs.Common.{inl, inr, refl}
 use Rattle.std.specs.Prelude.{Err}
 use Rattle.c2_calls_spec.proofs.SourceLemmas.{stays_as_it_was}
@@ -61,7 +60,7 @@ returns-clause-prepared g c = record {
       told_where_both due' (λ refused. not_both_media file media.0 media.1.stage refused)
       (λ refused. not_both_definitions bytes d stage refused) in
       let over =
-      c.ready_signed.ensures.ready file known media.0 media.1 (has_size the_length_of_a_new_store_fits bytes d stage) message spoken in
+      c.ready_signed.ensures.ready file known media.0 media.1 (has_size bytes d stage) message spoken in
       ready_next file (front.IsMediaStage file) (IsMadeOver g.H.Hashing.digest_of file bytes message) media.1.stage.0 r
       (opened_as file media.0 media.1.stage)
       (ready_next file (front.IsDefinitionStage bytes) _ d r (defined_as bytes d stage) over);

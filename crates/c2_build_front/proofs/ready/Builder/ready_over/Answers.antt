@@ -1,4 +1,3 @@
-use Rattle.c2_new_signature.proofs.TheLaws.{a_message_fills_its_reserve_or_needs_more}
 use Rattle.std.proofs.Common.{ap, length, subst, sym, ◌∙◌, ℕ}
 use Rattle.std.specs.Prelude.{Err}
 use Rattle.c2_bmff_binding_front.specs.Putting.{FitsIn}
@@ -61,7 +60,7 @@ returns-in-Ok-ready_with-clause-ready g c = λ bytes known kind is size.
     let k = c.in-Ok.ensures.drafted bytes known kind is in
     let signed = subst (IsSigned p d.reserve) (sym c.as_slice.ensures.value) c.in-Ok-padded.ensures.signed in (
       new_file hash bytes k.roots d message,
-      made_of a_message_fills_its_reserve_or_needs_more hash bytes is.stage.0 d c.in-Ok.front p message k signed,
+      made_of hash bytes is.stage.0 d c.in-Ok.front p message k signed,
       c.in-Ok-ready_with.ensures.ready bytes (c.in-Ok.ensures.reads.stays.same_bytes ∙ known) is.stage.0 k,
     )
 

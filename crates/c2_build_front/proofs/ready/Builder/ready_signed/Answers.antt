@@ -1,8 +1,9 @@
 use Rattle.std.proofs.Common.{List, refl, subst, ℕ}
 use Rattle.std.specs.Prelude.{Err, Ok}
+use Rattle.c2_lemmas.specs.Stages.{Then}
 use Rattle.c2_spec.specs.C2pa.Sign1.{SignParts}
 use Rattle.c2_calls_spec.proofs.SourceLemmas.{stays_as_it_was}
-use Rattle.c2_new_front_spec.specs.Outcomes.{IsBmffStage, IsMadeIn, Then}
+use Rattle.c2_new_front_spec.specs.Outcomes.{IsBmffStage, IsMadeIn}
 use Rattle.c2_new_front_spec.specs.Outcomes as front
 use Rattle.c2_build_refusals.specs.Kinds.{WithoutFault}
 use Rattle.c2_build_refusals.specs.Stages.{IsMessageStage}

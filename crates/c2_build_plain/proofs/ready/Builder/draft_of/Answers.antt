@@ -1,5 +1,3 @@
-use Rattle.c2_opening.proofs.TheLaws.{one_opening_file}
-use Rattle.c2_definition.proofs.TheLaws.{each_definition_is_read_one_way_one}
 use Rattle.std.proofs.Common.{inl, inr, map, refl}
 use Rattle.std.specs.Prelude.{Err, Ok, Result}
 use Rattle.c2_lemmas.proofs.Stages.{stage_value}
@@ -59,7 +57,7 @@ pub returns-in-Err-clause-panel : goal.returns-in-Err-clause-panel
 returns-in-Err-clause-panel g c =
     let said = panel_says (map (λ j. (goal.Judge-dyn g (j.vtable, j.value)).says j.value) c.args.judges.now.items) in
     hears_none c.args.judges.now c.in-Err.error (read_unheard no_effects _ _ _ c.in-Err.ensures.cause)
-    (undefined_embed one_opening_file g.H.Hashing.digest_of said (g.A.Source.known c.args.media.now) (g.B.Source.known c.args.definition.now) (g.C.Source.known c.args.signature.now) each_definition_is_read_one_way_one c.args.file.now
+    (undefined_embed g.H.Hashing.digest_of said (g.A.Source.known c.args.media.now) (g.B.Source.known c.args.definition.now) (g.C.Source.known c.args.signature.now) c.args.file.now
     (λ file known. c.requires.kind file known) c.in-Err.error (λ bytes known. c.in-Err.ensures.stage bytes known))
 
 -- ---- it is read, and what is behind it is drafted

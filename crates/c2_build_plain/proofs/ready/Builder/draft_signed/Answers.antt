@@ -1,6 +1,3 @@
-use Rattle.c2_opening.proofs.TheLaws.{one_opening_file}
-use Rattle.c2_definition.proofs.TheLaws.{each_definition_is_read_one_way_one}
-use Rattle.c2_new_signature.proofs.TheLaws.{each_message_is_accepted_or_refused_for_one_test}
 use Rattle.std.proofs.Common.{List, map, refl, subst, sym, ℕ}
 use Rattle.std.specs.Prelude.{Err, Ok}
 use Rattle.c2_spec.specs.C2pa.Sign1.{SignParts, parts_of}
@@ -18,7 +15,6 @@ use Rattle.c2_build_plain.proofs.NewStores.{draft_next}
 use Rattle.c2_build_plain.proofs.Unasked.{asks_with, unsigned_with}
 use Rattle.c2_build_plain.specs.Answers.{prepare_effects}
 use Rattle.c2_build_plain.proofs.ready.Builder.draft_signed.Goals as goal
-use Rattle.c2_cbor_spec.proofs.PlainBack.{one_item}
 
 -- ---- the message is refused
 
@@ -47,8 +43,8 @@ returns-in-Err-clause-panel g c =
     let said = panel_says (map (λ j. (goal.Judge-dyn g (j.vtable, j.value)).says j.value) c.args.judges.now.items) in
     let e = c.in-Err.error in
     hears_none c.args.judges.now e (read_unheard message_effects _ _ _ c.in-Err.ensures.cause)
-    (unsigned_with one_opening_file g.H.Hashing.digest_of said (g.A.Source.known c.args.media.now) (g.C.Source.known c.args.signature.now) each_definition_is_read_one_way_one c.args.file.now
-    (λ file known. c.requires.kind file known) one_item each_message_is_accepted_or_refused_for_one_test c.args.definition.now e
+    (unsigned_with g.H.Hashing.digest_of said (g.A.Source.known c.args.media.now) (g.C.Source.known c.args.signature.now) c.args.file.now
+    (λ file known. c.requires.kind file known) c.args.definition.now e
     (λ signed known. subst (λ (x : List ℕ). WithoutFault e (IsMessageStage x signed (Err e))) c.as_slice.ensures.value (c.in-Err.ensures.stage signed known)))
 
 -- ---- it is read, and then comes what is behind it
@@ -84,6 +80,6 @@ returns-clause-panel g c =
     let said = panel_says (map (λ j. (goal.Judge-dyn g (j.vtable, j.value)).says j.value) c.args.judges.now.items) in
     let d = c.args.definition.now in
     hears_as c.args.judges.now c.with_message.new.judges c.with_message.result
-    (asks_with one_opening_file g.H.Hashing.digest_of said (g.A.Source.known c.args.media.now) (g.C.Source.known c.args.signature.now) each_definition_is_read_one_way_one c.args.file.now
-    (λ file known. c.requires.kind file known) one_item each_message_is_accepted_or_refused_for_one_test d (parts_of c.in-Ok.sign)
+    (asks_with g.H.Hashing.digest_of said (g.A.Source.known c.args.media.now) (g.C.Source.known c.args.signature.now) c.args.file.now
+    (λ file known. c.requires.kind file known) d (parts_of c.in-Ok.sign)
     (λ signed known. let m = c.in-Ok.ensures.stage signed known in subst (λ (p : SignParts). IsMessageStage d.protected signed (Ok p)) (sym m.2) (subst (λ (x : List ℕ). IsMessageStage x signed (Ok m.0)) c.as_slice.ensures.value m.1))) c.with_message.ensures.panel

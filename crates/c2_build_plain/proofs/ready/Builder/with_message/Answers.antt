@@ -1,4 +1,3 @@
-use Rattle.c2_new_signature.proofs.TheLaws.{a_message_fills_its_reserve_or_needs_more}
 use Rattle.std.proofs.Common.{map}
 use Rattle.std.specs.Prelude.{Err}
 use Rattle.c2_spec.specs.C2pa.Sign1.{parts_of}
@@ -32,7 +31,7 @@ returns-in-Err-padded-clause-build g c = λ bytes known kind is of_file.
 pub returns-in-Ok-padded-clause-build : goal.returns-in-Ok-padded-clause-build
 returns-in-Ok-padded-clause-build g c = λ bytes known kind is of_file.
     let said = panel_says (map (λ j. (goal.Judge-dyn g (j.vtable, j.value)).says j.value) c.args.judges.now.items) in
-    draft_makes a_message_fills_its_reserve_or_needs_more g.H.Hashing.digest_of said bytes kind c.args.definition.now (parts_of c.args.sign.now) c.in-Ok.drafted c.in-Ok-padded.message (c.in-Ok.ensures.passed bytes known kind is) c.in-Ok-padded.ensures.signed
+    draft_makes g.H.Hashing.digest_of said bytes kind c.args.definition.now (parts_of c.args.sign.now) c.in-Ok.drafted c.in-Ok-padded.message (c.in-Ok.ensures.passed bytes known kind is) c.in-Ok-padded.ensures.signed
 
 pub returns-in-Ok-padded-clause-fits : goal.returns-in-Ok-padded-clause-fits
 returns-in-Ok-padded-clause-fits g c =

@@ -1,4 +1,3 @@
-use Rattle.c2_validate.proofs.TheLaws.{a_file_answers_by_what_it_is_opened_as_asks}
 use Rattle.std.proofs.Common.{map, inl, refl, sym, subst}
 use Rattle.c2_spec.specs.C2pa.Manifest.{manifests_of}
 use Rattle.c2_spec.specs.Judges.Panel.{panel_says}
@@ -55,5 +54,5 @@ returns-in-Err-clause-compared g c = λ a known b known'.
 pub returns-in-Err-clause-panel : goal.returns-in-Err-clause-panel
 returns-in-Err-clause-panel g c =
     hears_second {T = Compared} Second c.args.judges.now c.args.judges.now c.in-Err.unaccepted c.end.result c.end.ensures
-    (hears_unopened {T = Compared} a_file_answers_by_what_it_is_opened_as_asks g.H.Hashing.digest_of (g.B.Source.known c.args.second.now) c.args.judges.now c.in-Err.unaccepted (unasked_read c.in-Err.unaccepted c.in-Err.ensures.errors)
+    (hears_unopened {T = Compared} g.H.Hashing.digest_of (g.B.Source.known c.args.second.now) c.args.judges.now c.in-Err.unaccepted (unasked_read c.in-Err.unaccepted c.in-Err.ensures.errors)
     (λ file is. c.in-Err.ensures.refused file (c.requires.found file is)))

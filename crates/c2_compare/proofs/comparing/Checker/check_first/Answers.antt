@@ -1,5 +1,3 @@
-use Rattle.c2_compare_spec.proofs.TheLaws.{accepted_is_valid_accepted}
-use Rattle.c2_validate.proofs.TheLaws.{one_check_answer}
 use Rattle.std.proofs.Common.{List, map, sym, subst, ◌∙◌}
 use Rattle.c2_base.specs.declared.values.Question.{Question}
 use Rattle.c2_spec.specs.Judges.Panel.{panel_says}
@@ -53,7 +51,7 @@ returns-clause-leaves g c =
 
 pub returns-clause-panel : goal.returns-clause-panel
 returns-clause-panel g c =
-    hears_both one_check_answer accepted_is_valid_accepted g.H.Hashing.digest_of (g.A.Source.known c.args.first.now) (g.B.Source.known c.args.second.now) c.args.judges.now c.accept.new.judges c.find_second.new.judges c.in-Ok.found
+    hears_both g.H.Hashing.digest_of (g.A.Source.known c.args.first.now) (g.B.Source.known c.args.second.now) c.args.judges.now c.accept.new.judges c.find_second.new.judges c.in-Ok.found
     (λ file known. let side = c.in-Ok.ensures.side file known in (side.store, side.accepted)) c.in-Ok.ensures.panel c.find_second.result c.find_second.ensures.panel
 
 -- ---- it isn't, or the call fails
@@ -69,5 +67,5 @@ returns-in-Err-clause-leaves g c =
 
 pub returns-in-Err-clause-panel : goal.returns-in-Err-clause-panel
 returns-in-Err-clause-panel g c =
-    hears_first one_check_answer g.H.Hashing.digest_of (g.A.Source.known c.args.first.now) (g.B.Source.known c.args.second.now) c.args.judges.now c.accept.new.judges c.in-Err.unaccepted c.end.result c.end.ensures
+    hears_first g.H.Hashing.digest_of (g.A.Source.known c.args.first.now) (g.B.Source.known c.args.second.now) c.args.judges.now c.accept.new.judges c.in-Err.unaccepted c.end.result c.end.ensures
     (λ file known. c.in-Err.ensures.refused file known) c.in-Err.ensures.panel

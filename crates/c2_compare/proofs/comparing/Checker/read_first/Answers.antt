@@ -1,4 +1,3 @@
-use Rattle.c2_validate.proofs.TheLaws.{a_file_answers_by_what_it_is_opened_as_asks, one_check_answer}
 use Rattle.std.proofs.Common.{map, inl, refl, sym, subst}
 use Rattle.c2_spec.specs.C2pa.Manifest.{manifests_of}
 use Rattle.c2_spec.specs.Judges.Panel.{panel_says}
@@ -56,7 +55,7 @@ returns-in-Err-clause-panel g c =
     let said = panel_says (map (λ j. (goal.Judge-dyn g (j.vtable, j.value)).says j.value) c.args.judges.now.items) in
     let hash = g.H.Hashing.digest_of in
     let known = g.A.Source.known c.args.first.now in
-    hears_first {T = Compared} one_check_answer hash known (g.B.Source.known c.args.second.now) c.args.judges.now c.args.judges.now c.in-Err.unaccepted c.end.result c.end.ensures
+    hears_first {T = Compared} hash known (g.B.Source.known c.args.second.now) c.args.judges.now c.args.judges.now c.in-Err.unaccepted c.end.result c.end.ensures
     (λ file is. unaccepted_unopened hash said file c.in-Err.unaccepted (c.in-Err.ensures.refused file (c.requires.found file is)))
-    (hears_unopened {T = Compared} a_file_answers_by_what_it_is_opened_as_asks hash known c.args.judges.now c.in-Err.unaccepted (unasked_read c.in-Err.unaccepted c.in-Err.ensures.errors)
+    (hears_unopened {T = Compared} hash known c.args.judges.now c.in-Err.unaccepted (unasked_read c.in-Err.unaccepted c.in-Err.ensures.errors)
     (λ file is. c.in-Err.ensures.refused file (c.requires.found file is)))
